@@ -1,0 +1,4 @@
+pub mod Finding
+pub mod Number
+pub mod Pairs
+pub mod Literals

@@ -1,0 +1,1 @@
+// The record and its steps. It has definitions and no code yet: see specs/.
