@@ -1,0 +1,13 @@
+pub mod Scan
+pub mod Meaning
+pub mod Finding
+pub mod Number
+pub mod Pairs
+pub mod Literals
+pub mod Sheet
+pub mod Record
+pub mod Step
+pub mod Kinds
+pub mod Judgement
+pub mod Writer
+pub mod Computed

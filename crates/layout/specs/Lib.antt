@@ -1,4 +1,0 @@
-pub mod Finding
-pub mod Number
-pub mod Pairs
-pub mod Literals

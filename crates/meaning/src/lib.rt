@@ -1,1 +1,0 @@
-// The mathematics that a judgement is about. It has definitions and no code: see specs/Meaning.antt.

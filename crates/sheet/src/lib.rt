@@ -1,1 +1,0 @@
-// The sheet: the problem as a file. It has definitions and no code yet: see specs/Sheet.antt.

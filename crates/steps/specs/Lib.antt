@@ -1,3 +1,0 @@
-pub mod Record
-pub mod Step
-pub mod Kinds

@@ -1,1 +1,0 @@
-// The record and its steps. It has definitions and no code yet: see specs/.
