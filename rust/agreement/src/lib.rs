@@ -1,0 +1,119 @@
+//! Small files with the reference checker's answers, as theorems about the definitions of `crates/judgement`: the prover
+//! computes both sides, so a theorem that holds is an agreement, and one that is refused names its case.
+
+use reference::{judge, show, Answer};
+use samples::Sample;
+use std::fmt::Write;
+
+/// The refusal numbers that small files can meet; 1 needs a file of 4 GB.
+pub const NUMBERS: [u32; 19] = [
+    0, 2, 3, 4, 5, 6, 7, 8, 9, 10, 11, 12, 13, 14, 15, 16, 17, 18, 19,
+];
+
+/// Longer files would spend the prover's time and show nothing more.
+const SHEET_BYTES: usize = 96;
+const RECORD_BYTES: usize = 200;
+
+/// How many samples are looked at before a number counts as never met.
+const TRIES: usize = 2_000_000;
+
+pub struct Case {
+    pub sheet: Vec<u8>,
+    pub record: Vec<u8>,
+    pub answer: Answer,
+    pub aimed: &'static str,
+}
+
+/// The first small samples of the stream, as many of each number, `count` in all or fewer where a number is rare.
+pub fn choose(seed: u64, count: usize) -> Vec<Case> {
+    let share = count.div_ceil(NUMBERS.len());
+    let mut met = [0usize; 20];
+    let mut cases = Vec::new();
+    for sample in samples::stream(seed).take(TRIES) {
+        if cases.len() >= count {
+            break;
+        }
+        let Some(case) = small(sample) else { continue };
+        let number = case.answer.number as usize;
+        if met[number] < share {
+            met[number] += 1;
+            cases.push(case);
+        }
+    }
+    cases
+}
+
+fn small(sample: Sample) -> Option<Case> {
+    if sample.sheet.len() > SHEET_BYTES || sample.record.len() > RECORD_BYTES {
+        return None;
+    }
+    let answer = judge(&sample.sheet, &sample.record);
+    Some(Case {
+        sheet: sample.sheet,
+        record: sample.record,
+        answer,
+        aimed: sample.aimed,
+    })
+}
+
+/// How many cases ended in each number, in the order of `NUMBERS`.
+pub fn tally(cases: &[Case]) -> Vec<(u32, usize)> {
+    let of = |n: u32| cases.iter().filter(|c| c.answer.number == n).count();
+    NUMBERS.iter().map(|&n| (n, of(n))).collect()
+}
+
+/// The module of theorems.
+pub fn module(cases: &[Case]) -> String {
+    let mut text = String::from(HEAD);
+    for (i, case) in cases.iter().enumerate() {
+        theorem(&mut text, i + 1, case);
+    }
+    text
+}
+
+const HEAD: &str = "\
+-- Generated: the reference checker's answers, computed again from the definitions.
+-- Assumes nothing.
+use lib.Dec.{T}
+use Rattle.judgement.specs.Writer.{bytesOf}
+use Rattle.judgement.specs.Computed.{accepted, refused, right, shows}
+";
+
+fn theorem(text: &mut String, i: usize, case: &Case) {
+    let (sheet, record) = (bytes(&case.sheet), bytes(&case.record));
+    let answer = answer(&case.answer);
+    writeln!(text, "\n-- {}", case.aimed).unwrap();
+    writeln!(
+        text,
+        "case-{i} : T (right (record {{ sheet = {sheet}; «record» = {record}; answer = {answer} }}))\n\
+         unfolding bytesOf right\ncase-{i} = tt"
+    )
+    .unwrap();
+    // every step number of an accepted record in turn, and those around; of a refused one some number
+    let step = i as u64 % (case.answer.step_count + 2);
+    let part = bytes(show(&case.sheet, &case.record, step));
+    if case.answer.number == 0 || i.is_multiple_of(8) {
+        writeln!(
+            text,
+            "\nshown-{i} : T (shows ({sheet}) ({record}) {step} ({part}))\nunfolding bytesOf shows\nshown-{i} = tt"
+        )
+        .unwrap();
+    }
+}
+
+fn answer(a: &Answer) -> String {
+    if a.number == 0 {
+        format!("accepted {} {} {}", a.cost, a.open_count, a.step_count)
+    } else {
+        format!("refused {} {}", a.number, a.place)
+    }
+}
+
+/// A list of bytes as one number, lowest byte first: a long list costs the prover more to read than to compute.
+fn bytes(list: &[u8]) -> String {
+    let mut text = format!("bytesOf {} 0x0", list.len());
+    for b in list.iter().rev() {
+        write!(text, "{b:02x}").unwrap();
+    }
+    text
+}

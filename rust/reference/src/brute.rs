@@ -1,0 +1,129 @@
+//! Small sheets by trying every assignment. Only the reading of the sheet is shared with the judgement; clauses,
+//! costs and counts are worked out again, from bit masks.
+
+use crate::layout::number;
+use crate::literal::Literal;
+use crate::sheet::{self, Sheet};
+use crate::{sheet_is_valid, Answer, NONE};
+use std::collections::BTreeSet;
+
+/// The most variables for which all assignments are tried.
+pub const MOST_VARIABLES: u32 = 20;
+
+/// The sheet is valid and has at most [`MOST_VARIABLES`] variables. Elsewhere this module has nothing to say.
+pub fn within_reach(sheet: &[u8]) -> bool {
+    read(sheet).is_some()
+}
+
+/// The least cost of an assignment that satisfies every clause, or `None` if every assignment breaks one.
+///
+/// It speaks only of sheets [`within_reach`]; elsewhere it tries nothing, and its `None` says nothing.
+pub fn least_cost(sheet: &[u8]) -> Option<u64> {
+    let problem = Problem::of(&read(sheet)?);
+    let assignments = 0..1_u32 << problem.costs.len();
+    let satisfying = assignments.filter(|assignment| problem.satisfied_by(*assignment));
+    satisfying.map(|assignment| problem.cost(assignment)).min()
+}
+
+/// The answer is an acceptance of this record, and what it says is true: the record's assignment satisfies every
+/// clause at that cost and nothing is cheaper; or, for "none", no assignment satisfies every clause. The counts
+/// are the record's. False for a refusal and for a sheet that is not [`within_reach`].
+pub fn confirms(sheet: &[u8], record: &[u8], answer: &Answer) -> bool {
+    let Some(problem) = read(sheet).map(|sheet| Problem::of(&sheet)) else {
+        return false;
+    };
+    let byte_count = problem.costs.len().div_ceil(8);
+    let Some(stored) = record.get(12..12 + byte_count) else {
+        return false;
+    };
+    let assignment = number(stored) as u32;
+    if assignment >> problem.costs.len() != 0 {
+        return false;
+    }
+    let claim = number(&record[0..8]);
+    let acceptance = Answer {
+        number: 0,
+        place: 0,
+        cost: claim,
+        open_count: u64::from(assignment.count_ones()),
+        step_count: number(&record[8..12]),
+    };
+    if *answer != acceptance {
+        return false;
+    }
+    if claim == NONE {
+        assignment == 0 && least_cost(sheet).is_none()
+    } else {
+        problem.satisfied_by(assignment)
+            && problem.cost(assignment) == claim
+            && least_cost(sheet) == Some(claim)
+    }
+}
+
+/// The sheet, if it is within reach.
+fn read(file: &[u8]) -> Option<Sheet<'_>> {
+    if !sheet_is_valid(file) {
+        return None;
+    }
+    let sheet = sheet::read(file).ok()?;
+    (sheet.variable_count() <= MOST_VARIABLES).then_some(sheet)
+}
+
+/// The variables of a clause by the sign they have in it; variable v is bit v - 1.
+struct Masks {
+    positive: u32,
+    negative: u32,
+}
+
+struct Problem {
+    costs: Vec<u64>,
+    clauses: Vec<Masks>,
+}
+
+impl Problem {
+    fn of(sheet: &Sheet) -> Problem {
+        let variables = 1..=sheet.variable_count();
+        Problem {
+            costs: variables.map(|v| sheet.cost(v) as u64).collect(),
+            clauses: sheet.clauses().iter().map(Masks::of).collect(),
+        }
+    }
+
+    /// A set bit of the assignment is a true variable.
+    fn satisfied_by(&self, assignment: u32) -> bool {
+        let satisfied = |clause: &Masks| {
+            let true_positive = assignment & clause.positive;
+            let true_negative = !assignment & clause.negative;
+            true_positive != 0 || true_negative != 0
+        };
+        self.clauses.iter().all(satisfied)
+    }
+
+    fn cost(&self, assignment: u32) -> u64 {
+        let mut cost = 0;
+        for (index, variable_cost) in self.costs.iter().enumerate() {
+            if assignment & (1 << index) != 0 {
+                cost += variable_cost;
+            }
+        }
+        cost
+    }
+}
+
+impl Masks {
+    fn of(clause: &BTreeSet<Literal>) -> Masks {
+        let mut masks = Masks {
+            positive: 0,
+            negative: 0,
+        };
+        for literal in clause {
+            let bit = 1 << (literal.variable() - 1);
+            if literal.is_positive() {
+                masks.positive |= bit;
+            } else {
+                masks.negative |= bit;
+            }
+        }
+        masks
+    }
+}

@@ -1,0 +1,103 @@
+//! Reading a sheet: refusals 2, 3 and 4.
+
+use crate::layout::{self, length, number, Bodies};
+use crate::literal::{read_literals, Literal};
+use crate::refusal::{refuse, Refusal, RULE_FORM, SHEET_HEAD, SHEET_PAIRS};
+use std::collections::BTreeSet;
+
+/// A valid sheet. Variables and clauses are numbered from 1, so each stands at its number less 1.
+pub(crate) struct Sheet<'a> {
+    costs: Vec<u64>,
+    bodies: Bodies<'a>,
+    clauses: Vec<BTreeSet<Literal>>,
+}
+
+impl<'a> Sheet<'a> {
+    pub fn variable_count(&self) -> u32 {
+        self.costs.len() as u32
+    }
+
+    /// The cost of a variable from 1 to n.
+    pub fn cost(&self, variable: u32) -> u128 {
+        u128::from(self.costs[variable as usize - 1])
+    }
+
+    pub fn clauses(&self) -> &[BTreeSet<Literal>] {
+        &self.clauses
+    }
+
+    /// The clause of a number from 1 to m.
+    pub fn clause(&self, clause_number: u64) -> &BTreeSet<Literal> {
+        &self.clauses[clause_number as usize - 1]
+    }
+
+    /// The stored literals of the clause of a number from 1 to m, as a part of the sheet.
+    pub fn body(&self, clause_number: u64) -> &'a [u8] {
+        self.bodies.body(clause_number)
+    }
+}
+
+/// n and m, once the costs and the pairs are known to be there.
+struct Head {
+    variable_count: u32,
+    clause_count: u64,
+}
+
+impl Head {
+    fn pairs_start(&self) -> usize {
+        4 + 4 * self.variable_count as usize
+    }
+}
+
+/// The sheet, or the first of refusals 2 to 4 that it meets.
+pub(crate) fn read(file: &[u8]) -> Result<Sheet<'_>, Refusal> {
+    let head = read_head(file)?;
+    let bodies = read_bodies(file, &head)?;
+    let clauses = read_clauses(&bodies, head.variable_count)?;
+    let costs = file[4..head.pairs_start()].chunks_exact(4).map(number);
+    Ok(Sheet {
+        costs: costs.collect(),
+        bodies,
+        clauses,
+    })
+}
+
+/// Refusal 2.
+fn read_head(file: &[u8]) -> Result<Head, Refusal> {
+    if file.len() < 4 {
+        return refuse(SHEET_HEAD, 0);
+    }
+    let variable_count = number(&file[0..2]);
+    let clause_count = number(&file[2..4]);
+    if !(1..=1_024).contains(&variable_count) || clause_count > 4_096 {
+        return refuse(SHEET_HEAD, 0);
+    }
+    let pairs_end = 4 + 4 * u128::from(variable_count) + 8 * u128::from(clause_count);
+    if length(file) < pairs_end {
+        return refuse(SHEET_HEAD, 0);
+    }
+    Ok(Head {
+        variable_count: variable_count as u32,
+        clause_count,
+    })
+}
+
+/// Refusal 3.
+fn read_bodies<'a>(file: &'a [u8], head: &Head) -> Result<Bodies<'a>, Refusal> {
+    match layout::read_bodies(file, head.pairs_start(), head.clause_count) {
+        Ok(bodies) => Ok(bodies),
+        Err(clause_number) => refuse(SHEET_PAIRS, clause_number),
+    }
+}
+
+/// Refusal 4, over all clauses.
+fn read_clauses(bodies: &Bodies, variable_count: u32) -> Result<Vec<BTreeSet<Literal>>, Refusal> {
+    let mut clauses = Vec::new();
+    for clause_number in 1..=bodies.count() {
+        match read_literals(bodies.body(clause_number), variable_count) {
+            Some(clause) => clauses.push(clause),
+            None => return refuse(RULE_FORM, clause_number),
+        }
+    }
+    Ok(clauses)
+}

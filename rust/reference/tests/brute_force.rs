@@ -1,0 +1,166 @@
+//! Trying all assignments: on document 01's cases, and at the limits of its reach.
+
+mod common;
+
+use common::*;
+use reference::brute::{confirms, least_cost, within_reach};
+use reference::{judge, Answer};
+
+#[test]
+fn least_costs_of_the_cases() {
+    assert_eq!(least_cost(&sheet_a()), Some(3));
+    assert_eq!(least_cost(&sheet(&[7], &[])), Some(0));
+    assert_eq!(least_cost(&sheet(&[7], &[&[]])), None);
+    assert_eq!(least_cost(&sheet_d()), Some(11));
+}
+
+#[test]
+fn the_least_is_taken_over_the_assignments_that_satisfy_every_clause() {
+    // All variables false is cheapest and breaks clause 1; variable 1 breaks clause 2; variable 3 does for both.
+    let sheet = sheet(&[1, 9, 4], &[&[pos(1), pos(2), pos(3)], &[neg(1), pos(2)]]);
+    assert_eq!(least_cost(&sheet), Some(4));
+}
+
+#[test]
+fn no_assignment_satisfies_all_four_signs_of_two_variables() {
+    let clauses: [&[u16]; 4] = [
+        &[pos(1), pos(2)],
+        &[pos(1), neg(2)],
+        &[neg(1), pos(2)],
+        &[neg(1), neg(2)],
+    ];
+    assert_eq!(least_cost(&sheet(&[1, 1], &clauses)), None);
+    assert_eq!(least_cost(&sheet(&[1, 1], &clauses[..3])), Some(2));
+}
+
+#[test]
+fn it_reaches_20_variables_and_no_more() {
+    let clause: &[u16] = &[pos(20)];
+    let at_limit = sheet(&[5; 20], &[clause]);
+    assert!(within_reach(&at_limit));
+    assert_eq!(least_cost(&at_limit), Some(5));
+    let beyond = sheet(&[5; 21], &[clause]);
+    assert!(!within_reach(&beyond));
+    assert_eq!(least_cost(&beyond), None);
+}
+
+#[test]
+fn it_does_not_reach_a_sheet_that_is_not_valid() {
+    assert!(!within_reach(&[]));
+    assert!(!within_reach(&sheet(&[7], &[&[0]])));
+    assert!(!confirms(&[], &record_a(), &accepted(3, 1, 5)));
+}
+
+#[test]
+fn it_confirms_the_acceptances_of_a_and_b() {
+    assert!(confirms(
+        &sheet_a(),
+        &record_a(),
+        &judge(&sheet_a(), &record_a())
+    ));
+
+    let (sheet_b1, record_b1) = (sheet(&[7], &[]), record(0, &[0], &[cost_step(&[], 0)]));
+    assert!(confirms(
+        &sheet_b1,
+        &record_b1,
+        &judge(&sheet_b1, &record_b1)
+    ));
+
+    let sheet_b2 = sheet(&[7], &[&[]]);
+    let record_b2 = record(NONE, &[0], &[clause_step(&[], 1)]);
+    assert!(confirms(
+        &sheet_b2,
+        &record_b2,
+        &judge(&sheet_b2, &record_b2)
+    ));
+}
+
+/// The steps do not matter here: what is confirmed is the claim, whatever bears it out.
+#[test]
+fn it_confirms_d_at_11_and_nothing_dearer() {
+    let steps = [cost_step(&[], 0)];
+    let least = record(11, &[0b01_1010], &steps);
+    assert!(confirms(&sheet_d(), &least, &accepted(11, 3, 1)));
+    let dearer = record(12, &[0b01_1011], &steps);
+    assert!(!confirms(&sheet_d(), &dearer, &accepted(12, 4, 1)));
+}
+
+#[test]
+fn it_does_not_confirm_what_the_record_does_not_say() {
+    let right = accepted(3, 1, 5);
+    let not_said = [
+        Answer { cost: 4, ..right },
+        Answer {
+            open_count: 2,
+            ..right
+        },
+        Answer {
+            step_count: 4,
+            ..right
+        },
+        Answer { place: 1, ..right },
+        Answer {
+            cost: NONE,
+            open_count: 0,
+            ..right
+        },
+        Answer {
+            number: 19,
+            ..right
+        },
+        refused(19, 5),
+    ];
+    assert!(confirms(&sheet_a(), &record_a(), &right));
+    for answer in not_said {
+        assert!(!confirms(&sheet_a(), &record_a(), &answer));
+    }
+}
+
+#[test]
+fn it_does_not_confirm_a_false_claim() {
+    let steps = steps_a();
+    let claims = |claim, bits: u8, open_count| {
+        let record = record(claim, &[bits], &steps);
+        confirms(&sheet_a(), &record, &accepted(claim, open_count, 5))
+    };
+    assert!(claims(3, 0b01, 1));
+    assert!(!claims(8, 0b11, 2), "there is a cheaper one");
+    assert!(!claims(0, 0b00, 0), "clause 1 is broken");
+    assert!(!claims(5, 0b10, 1), "clause 2 is broken");
+    assert!(!claims(3, 0b11, 2), "this one costs 8");
+    assert!(!claims(3, 0b101, 2), "there is no variable 3");
+    assert!(!claims(NONE, 0b00, 0), "there is one");
+}
+
+#[test]
+fn it_does_not_confirm_a_broken_clause_at_the_least_cost() {
+    let sheet = sheet(&[3, 3], &[&[pos(1)]]);
+    let claims = |bits: u8| {
+        let record = record(3, &[bits], &[cost_step(&[], 0)]);
+        confirms(&sheet, &record, &accepted(3, 1, 1))
+    };
+    assert!(claims(0b01));
+    assert!(!claims(0b10));
+}
+
+#[test]
+fn it_does_not_confirm_the_claim_none_with_a_bit_set() {
+    let unsatisfiable = sheet(&[7], &[&[]]);
+    let claims = |bits: u8, open_count| {
+        let record = record(NONE, &[bits], &[clause_step(&[], 1)]);
+        confirms(&unsatisfiable, &record, &accepted(NONE, open_count, 1))
+    };
+    assert!(claims(0, 0));
+    assert!(!claims(1, 0));
+    assert!(!claims(1, 1));
+}
+
+#[test]
+fn it_does_not_confirm_a_record_without_an_assignment() {
+    for length in 0..13 {
+        let cut = &record_a()[..length];
+        assert!(!confirms(&sheet_a(), cut, &accepted(3, 1, 5)));
+    }
+    // The steps are not needed.
+    assert!(confirms(&sheet_a(), &record_a()[..13], &accepted(3, 1, 5)));
+}

@@ -1,0 +1,208 @@
+//! Builders that write sheets and records by document 01's layouts, and the answers to compare with.
+
+// Every test file compiles its own copy of this module and uses a part of it.
+#![allow(dead_code)]
+
+use reference::Answer;
+
+pub use reference::NONE;
+
+/// The code of "v open".
+pub const fn pos(variable: u16) -> u16 {
+    2 * variable
+}
+
+/// The code of "v shut".
+pub const fn neg(variable: u16) -> u16 {
+    2 * variable + 1
+}
+
+/// The bytes written in hexadecimal, two digits each, with spaces anywhere between them.
+pub fn hex(text: &str) -> Vec<u8> {
+    let digits: Vec<u32> = text
+        .chars()
+        .filter(|c| !c.is_whitespace())
+        .map(|c| c.to_digit(16).expect("a hexadecimal digit"))
+        .collect();
+    assert!(digits.len().is_multiple_of(2));
+    let byte = |two: &[u32]| (16 * two[0] + two[1]) as u8;
+    digits.chunks_exact(2).map(byte).collect()
+}
+
+/// `numbers` in 2 bytes each: literal codes, or a pivot.
+pub fn two_bytes(numbers: &[u16]) -> Vec<u8> {
+    numbers.iter().flat_map(|n| n.to_le_bytes()).collect()
+}
+
+/// `numbers` in 4 bytes each: costs, cited clauses, cited steps.
+pub fn four_bytes(numbers: &[u32]) -> Vec<u8> {
+    numbers.iter().flat_map(|n| n.to_le_bytes()).collect()
+}
+
+/// `head`, then the pairs of `bodies`, then the bodies.
+fn with_bodies(head: Vec<u8>, bodies: &[Vec<u8>]) -> Vec<u8> {
+    let mut file = head;
+    let mut offset = file.len() + 8 * bodies.len();
+    for body in bodies {
+        file.extend(four_bytes(&[offset as u32, body.len() as u32]));
+        offset += body.len();
+    }
+    file.extend(bodies.concat());
+    file
+}
+
+/// A sheet with these costs and these clauses, given by their literal codes.
+pub fn sheet(costs: &[u32], clauses: &[&[u16]]) -> Vec<u8> {
+    let bodies: Vec<Vec<u8>> = clauses.iter().map(|codes| two_bytes(codes)).collect();
+    sheet_of_bodies(costs, &bodies)
+}
+
+/// A sheet with these costs and these clause bodies, which need not be literal lists.
+pub fn sheet_of_bodies(costs: &[u32], bodies: &[Vec<u8>]) -> Vec<u8> {
+    let mut head = two_bytes(&[costs.len() as u16, bodies.len() as u16]);
+    head.extend(four_bytes(costs));
+    with_bodies(head, bodies)
+}
+
+/// A record with this claim, these assignment bytes and these step bodies.
+pub fn record(claim: u64, assignment: &[u8], steps: &[Vec<u8>]) -> Vec<u8> {
+    let mut head = claim.to_le_bytes().to_vec();
+    head.extend(four_bytes(&[steps.len() as u32]));
+    head.extend(assignment);
+    with_bodies(head, steps)
+}
+
+/// A step body of any kind, with its tail as given.
+pub fn step(kind: u8, codes: &[u16], bound: u64, tail: &[u8]) -> Vec<u8> {
+    let mut body = vec![kind, 0];
+    body.extend(two_bytes(&[codes.len() as u16]));
+    body.extend(bound.to_le_bytes());
+    body.extend(two_bytes(codes));
+    body.extend(tail);
+    body
+}
+
+/// Kind 1.
+pub fn clause_step(codes: &[u16], clause: u32) -> Vec<u8> {
+    step(1, codes, NONE, &four_bytes(&[clause]))
+}
+
+/// Kind 2.
+pub fn cost_step(codes: &[u16], bound: u64) -> Vec<u8> {
+    step(2, codes, bound, &[])
+}
+
+/// Kind 3.
+pub fn independent_step(codes: &[u16], bound: u64, clauses: &[u32]) -> Vec<u8> {
+    step(3, codes, bound, &four_bytes(clauses))
+}
+
+/// Kind 4.
+pub fn resolution_step(codes: &[u16], bound: u64, a: u32, b: u32, pivot: u16) -> Vec<u8> {
+    let mut tail = four_bytes(&[a, b]);
+    tail.extend(two_bytes(&[pivot]));
+    step(4, codes, bound, &tail)
+}
+
+/// An acceptance.
+pub fn accepted(cost: u64, open_count: u64, step_count: u64) -> Answer {
+    Answer {
+        number: 0,
+        place: 0,
+        cost,
+        open_count,
+        step_count,
+    }
+}
+
+/// A refusal.
+pub fn refused(number: u32, place: u64) -> Answer {
+    Answer {
+        number,
+        place,
+        cost: 0,
+        open_count: 0,
+        step_count: 0,
+    }
+}
+
+/// `bytes` with those from `at` on replaced by `new`.
+pub fn edited(bytes: &[u8], at: usize, new: &[u8]) -> Vec<u8> {
+    let mut copy = bytes.to_vec();
+    copy[at..at + new.len()].copy_from_slice(new);
+    copy
+}
+
+/// Sheet A of document 01.
+pub fn sheet_a() -> Vec<u8> {
+    hex("02 00 02 00
+         03 00 00 00 05 00 00 00
+         1C 00 00 00 04 00 00 00 20 00 00 00 04 00 00 00
+         02 00 04 00
+         02 00 05 00")
+}
+
+/// Record A of document 01. Its steps start at 53, 73, 93, 117 and 131.
+pub fn record_a() -> Vec<u8> {
+    hex("03 00 00 00 00 00 00 00 05 00 00 00
+         01
+         35 00 00 00 14 00 00 00
+         49 00 00 00 14 00 00 00
+         5D 00 00 00 18 00 00 00
+         75 00 00 00 0E 00 00 00
+         83 00 00 00 16 00 00 00
+         01 00 02 00 FF FF FF FF FF FF FF FF 02 00 04 00 01 00 00 00
+         01 00 02 00 FF FF FF FF FF FF FF FF 02 00 05 00 02 00 00 00
+         04 00 01 00 FF FF FF FF FF FF FF FF 02 00 01 00 00 00 02 00 00 00 02 00
+         02 00 01 00 03 00 00 00 00 00 00 00 03 00
+         04 00 00 00 03 00 00 00 00 00 00 00 03 00 00 00 04 00 00 00 01 00")
+}
+
+/// The five steps of record A, by the builders.
+pub fn steps_a() -> Vec<Vec<u8>> {
+    vec![
+        clause_step(&[pos(1), pos(2)], 1),
+        clause_step(&[pos(1), neg(2)], 2),
+        resolution_step(&[pos(1)], NONE, 1, 2, 2),
+        cost_step(&[neg(1)], 3),
+        resolution_step(&[], 3, 3, 4, 1),
+    ]
+}
+
+/// The clauses of case D, document 001's section 3.2.
+pub const CLAUSES_D: [&[u16]; 8] = [
+    &[pos(2), pos(4)],
+    &[pos(2), neg(5)],
+    &[pos(4), neg(5)],
+    &[pos(5), pos(6)],
+    &[pos(1), pos(3), neg(6)],
+    &[neg(1), pos(3), neg(6)],
+    &[pos(2), pos(3), pos(5), neg(6)],
+    &[pos(2), neg(3), pos(5), neg(6)],
+];
+
+/// Its costs are 1 to 6.
+pub fn sheet_d() -> Vec<u8> {
+    sheet(&[1, 2, 3, 4, 5, 6], &CLAUSES_D)
+}
+
+/// Numbers that look random and are the same in every run.
+pub struct Numbers {
+    state: u64,
+}
+
+impl Numbers {
+    pub fn from(seed: u64) -> Numbers {
+        Numbers { state: seed }
+    }
+
+    /// A number from 0 to `limit` less 1.
+    pub fn below(&mut self, limit: usize) -> usize {
+        // Knuth's multiplier; the high bits are the good ones.
+        self.state = self
+            .state
+            .wrapping_mul(6_364_136_223_846_793_005)
+            .wrapping_add(1_442_695_040_888_963_407);
+        (self.state >> 33) as usize % limit
+    }
+}

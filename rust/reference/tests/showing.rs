@@ -1,0 +1,107 @@
+//! Showing one step's literals, and the printed line.
+
+mod common;
+
+use common::*;
+use reference::{judge, line, show};
+
+/// The shown part is these bytes of this file, by address and not just by content.
+fn assert_part(shown: &[u8], file: &[u8], range: std::ops::Range<usize>) {
+    assert_eq!(shown.as_ptr_range(), file[range].as_ptr_range());
+}
+
+#[test]
+fn kind_1_shows_the_clause_in_the_sheet() {
+    let (sheet, record) = (sheet_a(), record_a());
+    assert_part(show(&sheet, &record, 1), &sheet, 28..32);
+    assert_part(show(&sheet, &record, 2), &sheet, 32..36);
+    assert_eq!(show(&sheet, &record, 2), two_bytes(&[pos(1), neg(2)]));
+}
+
+#[test]
+fn kinds_2_and_4_show_the_literals_in_the_step() {
+    let (sheet, record) = (sheet_a(), record_a());
+    assert_part(show(&sheet, &record, 3), &record, 105..107);
+    assert_part(show(&sheet, &record, 4), &record, 129..131);
+    assert_eq!(show(&sheet, &record, 3), two_bytes(&[pos(1)]));
+    assert_eq!(show(&sheet, &record, 4), two_bytes(&[neg(1)]));
+}
+
+/// Step 5 has no literals: the part is empty, and stands where they would.
+#[test]
+fn no_literals_are_an_empty_part_inside_the_step() {
+    let (sheet, record) = (sheet_a(), record_a());
+    assert_part(show(&sheet, &record, 5), &record, 143..143);
+}
+
+/// The cited clause is not the first, and the sheet's clauses differ in length.
+#[test]
+fn kind_3_shows_the_literals_in_the_step() {
+    let sheet = sheet(&[1, 2, 4], &[&[pos(2), pos(3)], &[pos(1)]]);
+    let steps = [
+        independent_step(&[pos(3)], 2, &[1]),
+        independent_step(&[], 3, &[1, 2]),
+    ];
+    let record = record(3, &[0b011], &steps);
+    assert_eq!(judge(&sheet, &record), accepted(3, 2, 2));
+    assert_part(show(&sheet, &record, 1), &record, 41..43);
+    assert_part(show(&sheet, &record, 2), &record, 59..59);
+}
+
+/// The sheet's clauses stand in another order than the steps that copy them.
+#[test]
+fn kind_1_shows_the_clause_that_it_cites() {
+    let sheet = sheet(&[7], &[&[pos(1)], &[], &[neg(1)]]);
+    let steps = [
+        clause_step(&[neg(1)], 3),
+        clause_step(&[pos(1)], 1),
+        clause_step(&[], 2),
+    ];
+    let record = record(NONE, &[0], &steps);
+    assert_eq!(judge(&sheet, &record), accepted(NONE, 0, 3));
+    assert_part(show(&sheet, &record, 1), &sheet, 34..36);
+    assert_part(show(&sheet, &record, 2), &sheet, 32..34);
+    // The empty clause: an empty part, between its neighbours in the sheet.
+    assert_part(show(&sheet, &record, 3), &sheet, 34..34);
+}
+
+#[test]
+fn a_step_number_not_1_to_t_shows_the_empty_part_at_the_records_start() {
+    let (sheet, record) = (sheet_a(), record_a());
+    for step in [0, 6, 1 << 32, (1 << 32) + 1, u64::MAX] {
+        assert_part(show(&sheet, &record, step), &record, 0..0);
+    }
+}
+
+#[test]
+fn a_refused_record_shows_the_empty_part_at_its_start() {
+    let sheet = sheet_a();
+    // The first steps are in order; the close is not.
+    let record = edited(&record_a(), 135, &4_u64.to_le_bytes());
+    for step in 0..=6 {
+        assert_part(show(&sheet, &record, step), &record, 0..0);
+    }
+}
+
+#[test]
+fn a_refused_sheet_shows_the_empty_part_at_the_records_start() {
+    let record = record_a();
+    for step in 0..=6 {
+        assert_part(show(&[], &record, step), &record, 0..0);
+    }
+    assert_part(show(&sheet_a(), &record[..0], 1), &record, 0..0);
+}
+
+#[test]
+fn the_three_lines() {
+    assert_eq!(line(&accepted(11, 3, 17)), "least 11 open 3 steps 17");
+    assert_eq!(line(&accepted(0, 0, 1)), "least 0 open 0 steps 1");
+    let greatest_cost = "least 18446744073709551614 open 1 steps 1";
+    assert_eq!(line(&accepted(NONE - 1, 1, 1)), greatest_cost);
+    assert_eq!(line(&accepted(NONE, 0, 4)), "none open 0 steps 4");
+    assert_eq!(line(&refused(2, 0)), "refused 2 at 0");
+    assert_eq!(
+        line(&refused(19, 4_294_967_295)),
+        "refused 19 at 4294967295"
+    );
+}

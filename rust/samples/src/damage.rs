@@ -1,0 +1,152 @@
+//! Faults, each aimed at one refusal. A name starts with the number that the fault alone would meet:
+//! 0 stands for a change that keeps the record acceptable. A change made to a part is followed by
+//! new pairs, so that it reaches the refusals behind the layout.
+
+mod blind;
+mod forms;
+mod heads;
+mod independence;
+mod pairs;
+mod plans;
+mod resolutions;
+mod statements;
+
+use crate::draft::{code_bytes, codes, Body, Draft, Files, Table};
+use crate::random::Random;
+
+/// How a fault is made; nothing comes back when it does not apply to these files.
+#[derive(Clone, Copy)]
+pub enum Way {
+    Draft(fn(&mut Draft, &mut Random) -> Option<()>),
+    /// Changes one step of this kind; the number is the step's own.
+    Step(u8, fn(&Draft, u32, &mut Body, &mut Random) -> Option<()>),
+    /// Changes one step body of any kind.
+    Bytes(fn(&mut Vec<u8>, &mut Random) -> Option<()>),
+    ClauseList(fn(&mut Vec<u16>, usize, &mut Random) -> Option<()>),
+    StepList(fn(&mut Vec<u16>, usize, &mut Random) -> Option<()>),
+    SheetPairs(fn(&mut Vec<u8>, Table, &mut Random) -> Option<()>),
+    RecordPairs(fn(&mut Vec<u8>, Table, &mut Random) -> Option<()>),
+    Files(fn(&mut Files, &mut Random) -> Option<()>),
+}
+
+#[derive(Clone, Copy)]
+pub struct Damage {
+    pub aimed: &'static str,
+    pub way: Way,
+}
+
+const fn damage(aimed: &'static str, way: Way) -> Damage {
+    Damage { aimed, way }
+}
+
+/// Every fault with an aim, in groups.
+pub const AIMED: [&[Damage]; 7] = [
+    heads::HEADS,
+    pairs::PAIRS,
+    forms::FORMS,
+    plans::PLANS,
+    statements::STATEMENTS,
+    independence::INDEPENDENCE,
+    resolutions::RESOLUTIONS,
+];
+
+/// Changes made without looking.
+pub const BLIND: &[Damage] = blind::BLIND;
+
+/// One fault of those with an aim, each as likely as the other.
+pub fn aimed(random: &mut Random) -> Damage {
+    let count = AIMED.iter().map(|group| group.len()).sum();
+    let place = random.below(count);
+    let mut all = AIMED.iter().flat_map(|group| group.iter());
+    *all.nth(place).expect("the place is below the count")
+}
+
+pub fn blind(random: &mut Random) -> Damage {
+    BLIND[random.below(BLIND.len())]
+}
+
+/// The parts with those of the faults that change parts, and whether there were any.
+pub fn changed(faults: &[Damage], draft: &Draft, random: &mut Random) -> (Draft, bool) {
+    let mut changed = draft.clone();
+    let mut done = false;
+    for fault in faults {
+        done |= to_draft(fault.way, &mut changed, random).is_some();
+    }
+    (changed, done)
+}
+
+/// The files with these faults, parts first, bytes after; nothing when none applies.
+pub fn apply(faults: &[Damage], draft: &Draft, random: &mut Random) -> Option<Files> {
+    let (changed, mut done) = changed(faults, draft, random);
+    let mut files = changed.files();
+    for fault in faults {
+        done |= to_files(fault.way, &mut files, random).is_some();
+    }
+    done.then_some(files)
+}
+
+fn to_draft(way: Way, draft: &mut Draft, random: &mut Random) -> Option<()> {
+    match way {
+        Way::Draft(change) => change(draft, random),
+        Way::Step(kind, change) => to_step(kind, change, draft, random),
+        Way::Bytes(change) => {
+            let place = random.below(draft.steps.len().max(1));
+            change(draft.steps.get_mut(place)?, random)
+        }
+        Way::ClauseList(change) => {
+            let place = random.below(draft.clauses.len().max(1));
+            let mut list = codes(draft.clauses.get(place)?);
+            change(&mut list, draft.variables(), random)?;
+            draft.clauses[place] = code_bytes(&list);
+            Some(())
+        }
+        Way::StepList(change) => {
+            let place = random.below(draft.steps.len().max(1));
+            let mut body = Body::read(draft.steps.get(place)?)?;
+            change(&mut body.literals, draft.variables(), random)?;
+            draft.steps[place] = body.bytes();
+            Some(())
+        }
+        Way::SheetPairs(_) | Way::RecordPairs(_) | Way::Files(_) => None,
+    }
+}
+
+/// Tries the steps of the kind from a random one on, because many faults need some feature.
+fn to_step(
+    kind: u8,
+    change: fn(&Draft, u32, &mut Body, &mut Random) -> Option<()>,
+    draft: &mut Draft,
+    random: &mut Random,
+) -> Option<()> {
+    let count = draft.steps.len();
+    let first = random.below(count.max(1));
+    for turn in 0..count {
+        let place = (first + turn) % count;
+        if draft.steps[place].first() != Some(&kind) {
+            continue;
+        }
+        let Some(mut body) = Body::read(&draft.steps[place]) else {
+            continue;
+        };
+        if change(draft, place as u32 + 1, &mut body, random).is_some() {
+            draft.steps[place] = body.bytes();
+            return Some(());
+        }
+    }
+    None
+}
+
+fn to_files(way: Way, files: &mut Files, random: &mut Random) -> Option<()> {
+    match way {
+        Way::SheetPairs(change) => {
+            let table = files.sheet_table()?;
+            change(&mut files.sheet, table, random)
+        }
+        Way::RecordPairs(change) => {
+            let table = files.record_table()?;
+            change(&mut files.record, table, random)
+        }
+        Way::Files(change) => change(files, random),
+        _ => None,
+    }
+}

@@ -1,0 +1,262 @@
+//! Both files taken apart, so that a part can be changed and the pairs written anew around it.
+
+use planner::format::{record_from, sheet_from};
+use planner::Problem;
+
+/// The bytes of both files.
+#[derive(Clone, Debug, PartialEq, Eq)]
+pub struct Files {
+    pub sheet: Vec<u8>,
+    pub record: Vec<u8>,
+}
+
+/// The parts of both files, without counts, offsets and lengths.
+#[derive(Clone, Debug)]
+pub struct Draft {
+    pub costs: Vec<u32>,
+    pub clauses: Vec<Vec<u8>>,
+    pub claim: u64,
+    pub assignment: Vec<u8>,
+    pub steps: Vec<Vec<u8>>,
+}
+
+/// A step body taken apart.
+#[derive(Clone, Debug)]
+pub struct Body {
+    pub kind: u8,
+    pub spare: u8,
+    pub literals: Vec<u16>,
+    pub bound: u64,
+    pub tail: Vec<u8>,
+}
+
+/// Where a file keeps its pairs.
+#[derive(Clone, Copy, Debug)]
+pub struct Table {
+    pub start: usize,
+    pub count: usize,
+}
+
+pub fn assignment_length(variables: usize) -> usize {
+    variables.div_ceil(8)
+}
+
+pub fn read_u16(bytes: &[u8], place: usize) -> Option<u16> {
+    let part = bytes.get(place..place + 2)?;
+    Some(u16::from_le_bytes(part.try_into().ok()?))
+}
+
+pub fn read_u32(bytes: &[u8], place: usize) -> Option<u32> {
+    let part = bytes.get(place..place + 4)?;
+    Some(u32::from_le_bytes(part.try_into().ok()?))
+}
+
+pub fn read_u64(bytes: &[u8], place: usize) -> Option<u64> {
+    let part = bytes.get(place..place + 8)?;
+    Some(u64::from_le_bytes(part.try_into().ok()?))
+}
+
+/// Writes over the bytes at a place; nothing when they are not all there.
+pub fn overwrite(bytes: &mut [u8], place: usize, value: &[u8]) -> Option<()> {
+    bytes
+        .get_mut(place..place + value.len())?
+        .copy_from_slice(value);
+    Some(())
+}
+
+pub fn codes(bytes: &[u8]) -> Vec<u16> {
+    bytes
+        .chunks_exact(2)
+        .map(|pair| u16::from_le_bytes([pair[0], pair[1]]))
+        .collect()
+}
+
+pub fn code_bytes(codes: &[u16]) -> Vec<u8> {
+    codes.iter().flat_map(|code| code.to_le_bytes()).collect()
+}
+
+impl Files {
+    pub fn variables(&self) -> Option<usize> {
+        read_u16(&self.sheet, 0).map(usize::from)
+    }
+
+    pub fn sheet_table(&self) -> Option<Table> {
+        let count = usize::from(read_u16(&self.sheet, 2)?);
+        Some(Table {
+            start: 4 + 4 * self.variables()?,
+            count,
+        })
+    }
+
+    pub fn record_table(&self) -> Option<Table> {
+        let count = read_u32(&self.record, 8)? as usize;
+        Some(Table {
+            start: 12 + assignment_length(self.variables()?),
+            count,
+        })
+    }
+}
+
+impl Draft {
+    /// Takes a well-formed record for this problem apart.
+    pub fn new(problem: &Problem, record: &[u8]) -> Option<Draft> {
+        let start = 12 + assignment_length(problem.variables());
+        let mut steps = Vec::new();
+        for place in 0..read_u32(record, 8)? as usize {
+            let offset = read_u32(record, start + 8 * place)? as usize;
+            let length = read_u32(record, start + 8 * place + 4)? as usize;
+            steps.push(record.get(offset..offset + length)?.to_vec());
+        }
+        let bytes = |clause: &Vec<_>| planner::format::literal_bytes(clause);
+        Some(Draft {
+            costs: problem.costs.clone(),
+            clauses: problem.clauses.iter().map(bytes).collect(),
+            claim: read_u64(record, 0)?,
+            assignment: record.get(12..start)?.to_vec(),
+            steps,
+        })
+    }
+
+    /// Both files, with counts and pairs that fit the parts.
+    pub fn files(&self) -> Files {
+        let sheet = sheet_from(&self.costs, &self.clauses.iter().collect());
+        let record = record_from(self.claim, &self.assignment, &self.steps.iter().collect());
+        Files { sheet, record }
+    }
+
+    pub fn variables(&self) -> usize {
+        self.costs.len()
+    }
+
+    /// The literals of a clause numbered from 1.
+    pub fn clause(&self, number: u32) -> Option<Vec<u16>> {
+        let body = self.clauses.get((number as usize).checked_sub(1)?)?;
+        Some(codes(body))
+    }
+
+    /// The body of a step numbered from 1.
+    pub fn step(&self, number: u32) -> Option<Body> {
+        Body::read(self.steps.get((number as usize).checked_sub(1)?)?)
+    }
+
+    /// The cost of a literal's variable, 0 for one that the sheet does not have.
+    pub fn cost_of(&self, code: u16) -> u64 {
+        let index = usize::from(code / 2).wrapping_sub(1);
+        self.costs.get(index).copied().map_or(0, u64::from)
+    }
+
+    pub fn value(&self, variable: usize) -> bool {
+        let byte = self
+            .assignment
+            .get((variable - 1) / 8)
+            .copied()
+            .unwrap_or(0);
+        byte >> ((variable - 1) % 8) & 1 == 1
+    }
+
+    pub fn flip(&mut self, variable: usize) -> Option<()> {
+        *self.assignment.get_mut((variable - 1) / 8)? ^= 1 << ((variable - 1) % 8);
+        Some(())
+    }
+
+    pub fn assignment_cost(&self) -> u64 {
+        let paid = (1..=self.variables()).filter(|variable| self.value(*variable));
+        paid.map(|variable| u64::from(self.costs[variable - 1]))
+            .sum()
+    }
+
+    pub fn satisfied(&self) -> bool {
+        self.clauses.iter().all(|clause| {
+            let mut literals = codes(clause).into_iter();
+            literals.any(|code| code > 1 && self.value(usize::from(code / 2)) == (code % 2 == 0))
+        })
+    }
+
+    /// Puts a step before the one at this place and moves the citations behind it along.
+    pub fn insert(&mut self, place: usize, body: Vec<u8>) {
+        for step in &mut self.steps {
+            if let Some(mut read) = Body::read(step).filter(|read| read.kind == 4) {
+                for part in 0..2 {
+                    let cited = read.citation(part).unwrap_or(0);
+                    if cited as usize > place {
+                        read.cite(part, cited.saturating_add(1));
+                    }
+                }
+                *step = read.bytes();
+            }
+        }
+        self.steps.insert(place, body);
+    }
+}
+
+impl Body {
+    pub fn read(bytes: &[u8]) -> Option<Body> {
+        let count = usize::from(read_u16(bytes, 2)?);
+        let bound = read_u64(bytes, 4)?;
+        let literals = codes(bytes.get(12..12 + 2 * count)?);
+        let tail = bytes[12 + 2 * count..].to_vec();
+        Some(Body {
+            kind: bytes[0],
+            spare: bytes[1],
+            literals,
+            bound,
+            tail,
+        })
+    }
+
+    pub fn bytes(&self) -> Vec<u8> {
+        let mut bytes = vec![self.kind, self.spare];
+        bytes.extend_from_slice(&(self.literals.len() as u16).to_le_bytes());
+        bytes.extend_from_slice(&self.bound.to_le_bytes());
+        bytes.extend(code_bytes(&self.literals));
+        bytes.extend_from_slice(&self.tail);
+        bytes
+    }
+
+    /// A cost step with these literals, which need not be sorted, and the bound that the sheet gives.
+    pub fn cost(draft: &Draft, mut literals: Vec<u16>) -> Body {
+        literals.sort_unstable();
+        let negative = literals.iter().filter(|code| **code % 2 == 1);
+        let bound = negative.map(|code| draft.cost_of(*code)).sum();
+        Body {
+            kind: 2,
+            spare: 0,
+            literals,
+            bound,
+            tail: Vec::new(),
+        }
+    }
+
+    /// The number of 4 bytes at this place of the tail, counted from 0.
+    pub fn citation(&self, place: usize) -> Option<u32> {
+        read_u32(&self.tail, 4 * place)
+    }
+
+    pub fn cite(&mut self, place: usize, number: u32) -> Option<()> {
+        overwrite(&mut self.tail, 4 * place, &number.to_le_bytes())
+    }
+
+    /// The clauses that a kind 3 step cites.
+    pub fn cited(&self) -> Vec<u32> {
+        let number = |part: &[u8]| u32::from_le_bytes([part[0], part[1], part[2], part[3]]);
+        self.tail.chunks_exact(4).map(number).collect()
+    }
+
+    pub fn pivot(&self) -> Option<u16> {
+        read_u16(&self.tail, 8)
+    }
+
+    pub fn holds(&self, code: u16) -> bool {
+        self.literals.contains(&code)
+    }
+
+    /// Adds a literal at its place in the order.
+    pub fn add(&mut self, code: u16) {
+        let place = self.literals.partition_point(|other| *other < code);
+        self.literals.insert(place, code);
+    }
+
+    pub fn remove(&mut self, code: u16) {
+        self.literals.retain(|other| *other != code);
+    }
+}

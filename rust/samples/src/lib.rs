@@ -1,0 +1,146 @@
+//! Samples for comparing checkers: sheets with records that are valid, or damaged with an aim, or
+//! damaged without one. The same seed always gives the same samples.
+#![forbid(unsafe_code)]
+
+pub mod damage;
+pub mod draft;
+pub mod random;
+pub mod sheets;
+
+use damage::Damage;
+use draft::{Draft, Files};
+use planner::padding::Mix;
+use planner::{format, long, search, tree, Plan, Problem};
+use random::Random;
+
+#[derive(Clone, Debug, PartialEq, Eq)]
+pub struct Sample {
+    pub sheet: Vec<u8>,
+    pub record: Vec<u8>,
+    /// What was done; a leading number is the refusal that the fault alone would meet.
+    pub aimed: &'static str,
+}
+
+impl Sample {
+    fn new(files: Files, aimed: &'static str) -> Self {
+        Sample {
+            sheet: files.sheet,
+            record: files.record,
+            aimed,
+        }
+    }
+}
+
+/// An endless stream of samples.
+pub fn stream(seed: u64) -> impl Iterator<Item = Sample> {
+    let random = Random::new(seed);
+    Stream {
+        random,
+        base: None,
+        left: 0,
+        other: Vec::new(),
+    }
+}
+
+/// A valid sample whose record has about `size` bytes.
+pub fn long(seed: u64, size: usize, mix: Mix) -> Sample {
+    let problem = sheets::roomy(&mut Random::new(seed));
+    let plan = search::plan(&problem);
+    let record = long::record(&problem, &plan, seed, size, mix);
+    Sample {
+        sheet: format::sheet(&problem),
+        record,
+        aimed: "0 long",
+    }
+}
+
+/// Planning takes longer than damaging, so that one plan serves for many samples.
+struct Stream {
+    random: Random,
+    base: Option<Draft>,
+    left: usize,
+    /// The record of the base before this one.
+    other: Vec<u8>,
+}
+
+impl Iterator for Stream {
+    type Item = Sample;
+
+    fn next(&mut self) -> Option<Sample> {
+        if self.left == 0 {
+            if let Some(before) = self.base.take() {
+                self.other = before.files().record;
+            }
+            let base = self.new_base();
+            let files = base.files();
+            self.base = Some(base);
+            return Some(Sample::new(files, "0 valid"));
+        }
+        self.left -= 1;
+        let draft = self.base.take()?;
+        let sample = self.damaged(&draft);
+        self.base = Some(draft);
+        Some(sample)
+    }
+}
+
+impl Stream {
+    fn new_base(&mut self) -> Draft {
+        let (problem, left) = match self.random.below(200) {
+            0 => (sheets::wide(&mut self.random), 8),
+            1..=4 => (sheets::middle(&mut self.random), 16),
+            _ => (sheets::small(&mut self.random), 48),
+        };
+        self.left = left;
+        let plan = self.plan(&problem);
+        // Steps that the plan does not need bring every kind into every record.
+        let size = plan.record().len() + self.random.below(800);
+        let record = long::record(&problem, &plan, self.random.next_u64(), size, Mix::Mixed);
+        Draft::new(&problem, &record).expect("the planner's records are well formed")
+    }
+
+    fn plan(&mut self, problem: &Problem) -> Plan {
+        if problem.variables() <= 6 && self.random.percent(30) {
+            return tree::plan(problem);
+        }
+        search::plan(problem)
+    }
+
+    /// Draws faults until one applies; "2 sheet under four bytes" always does.
+    fn damaged(&mut self, draft: &Draft) -> Sample {
+        if self.random.percent(1) {
+            let sheet = draft.files().sheet;
+            let record = self.other.clone();
+            return Sample::new(Files { sheet, record }, "blind record of another sheet");
+        }
+        loop {
+            let (faults, aimed) = self.faults();
+            if let Some(files) = damage::apply(&faults, draft, &mut self.random) {
+                return Sample::new(files, aimed);
+            }
+        }
+    }
+
+    fn faults(&mut self) -> (Vec<Damage>, &'static str) {
+        let random = &mut self.random;
+        match random.below(20) {
+            0..=13 => {
+                let fault = damage::aimed(random);
+                (vec![fault], fault.aimed)
+            }
+            14..=17 => {
+                let fault = damage::blind(random);
+                (vec![fault], fault.aimed)
+            }
+            // Two faults at once show which of them is told.
+            18 => (
+                vec![damage::aimed(random), damage::aimed(random)],
+                "two faults",
+            ),
+            _ => (
+                vec![damage::aimed(random), damage::blind(random)],
+                "two faults, one blind",
+            ),
+        }
+    }
+}
