@@ -1,1 +1,5 @@
+pub mod Scan
+pub mod Findings
+pub mod Membership
+pub mod Typed
 pub mod Cases

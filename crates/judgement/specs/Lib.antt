@@ -10,4 +10,6 @@ pub mod Step
 pub mod Kinds
 pub mod Judgement
 pub mod Writer
+pub mod Facts
+pub mod Demands
 pub mod Computed
