@@ -2,4 +2,8 @@ pub mod Scan
 pub mod Findings
 pub mod Membership
 pub mod Typed
+pub mod Shape
+pub mod Order
+pub mod Models
+pub mod Least
 pub mod Cases

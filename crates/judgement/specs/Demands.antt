@@ -11,6 +11,7 @@ use Rattle.judgement.specs.Sheet.{variables, problemOf}
 use Rattle.judgement.specs.Record.{claim, steps, assigned, assignmentSize, trueCount}
 use Rattle.judgement.specs.Judgement.{judgement, accepts}
 use Rattle.judgement.specs.Writer.{assignmentOf, recordOf}
+use Rattle.judgement.specs.Order.{tests, FirstFault}
 use Rattle.judgement.specs.Facts.{ValidSheet, Acceptable}
 use Rattle.judgement.specs.declared.Answer.{Answer}
 
@@ -35,6 +36,11 @@ pub record Shape (s r : List ℕ) (a : Answer) : Type 0 where
 
 abbrev pub ExactlyWhen : List ℕ → List ℕ → Type 0
 ExactlyWhen s r = Accepted s r ↔ Acceptable s r
+
+-- a refusal has number N and place P exactly when that is the first fault in document 01's order
+abbrev pub WhichFault : List ℕ → List ℕ → Type 0
+WhichFault s r =
+    (N P : ℕ) → N ≢ 0 → ((judgement s r .number ≡ N) × (judgement s r .place ≡ P)) ↔ FirstFault (tests s r) N P
 
 -- ---- demand 3, every valid sheet: acceptance makes the claim true
 
