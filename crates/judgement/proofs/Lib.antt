@@ -1,9 +1,11 @@
 pub mod Scan
 pub mod Findings
 pub mod Membership
+pub mod Models
+pub mod Lists
+pub mod Layouts
 pub mod Typed
 pub mod Shape
 pub mod Order
-pub mod Models
 pub mod Least
 pub mod Cases
