@@ -42,6 +42,11 @@ pub or-e : (a b : Bool) → a || b ≡ true → (a ≡ true) ⊎ (b ≡ true)
 or-e true b p = inl refl
 or-e false b p = inr p
 
+-- by the second test where the first fails
+pub or-else : (a b : Bool) → (a ≡ false → b ≡ true) → a || b ≡ true
+or-else true b h = refl
+or-else false b h = h refl
+
 pub not-i : (b : Bool) → (b ≡ true → ⊥) → not b ≡ true
 not-i true f = absurd (f refl)
 not-i false f = refl
@@ -95,6 +100,18 @@ any-at f zero k (l, h) q = absurd (omega arith)
 any-at f (suc n) k w q =
     last-or n k w (λ e. or-r (anyOf f n) (f (suc n)) (rw e at q)) (λ w. or-l (anyOf f n) (f (suc n)) (any-at f n k w q))
 
+-- where P or Q holds of each, P holds of one or Q of all
+pub some-or-all : (P Q : ℕ → Type 0) (n : ℕ) → ((k : ℕ) → Among n k → P k ⊎ Q k)
+    → ((k : ℕ) × Among n k × P k) ⊎ ((k : ℕ) → Among n k → Q k)
+some-or-all P Q zero h = inr (λ k w. absurd (omega (arith, w .0, w .1)))
+some-or-all P Q (suc n) h = go (h (suc n) (omega arith, omega arith)) (some-or-all P Q n (λ k w. h k (w .0, omega (arith, w .1))))
+  where
+    go : P (suc n) ⊎ Q (suc n) → ((k : ℕ) × Among n k × P k) ⊎ ((k : ℕ) → Among n k → Q k)
+        → ((k : ℕ) × Among (suc n) k × P k) ⊎ ((k : ℕ) → Among (suc n) k → Q k)
+    go (inl p) r = inl (suc n, (omega arith, omega arith), p)
+    go (inr q) (inl (k, w, p)) = inl (k, (w .0, omega (arith, w .1)), p)
+    go (inr q) (inr f) = inr (λ k w. last-or n k w (λ e. rw e q) (f k))
+
 -- ---- sums and least values
 
 pub sum-same : (f g : ℕ → ℕ) (n : ℕ) → ((k : ℕ) → Among n k → f k ≡ g k) → sumOf f n ≡ sumOf g n
@@ -105,13 +122,13 @@ sum-same f g (suc n) h =
     let b = h (suc n) (omega arith, omega arith) in
     omega (arith, a, b)
 
-pub sum-less : (f g : ℕ → ℕ) (n : ℕ) → ((k : ℕ) → Among n k → f k ≤ g k) → sumOf f n ≤ sumOf g n
+pub sum-split : (f g h : ℕ → ℕ) (n : ℕ) → ((k : ℕ) → f k ≡ g k + h k) → sumOf f n ≡ sumOf g n + sumOf h n
 unfolding sumOf
-sum-less f g zero h = omega arith
-sum-less f g (suc n) h =
-    let a = sum-less f g n (λ k (l, m). h k (l, omega arith)) in
-    let b = h (suc n) (omega arith, omega arith) in
-    omega (arith, a, b)
+sum-split f g h zero e = omega arith
+sum-split f g h (suc n) e =
+    let i = sum-split f g h n e in
+    let l = e (suc n) in
+    omega arith
 
 pub least-below : (top : ℕ) (f : ℕ → ℕ) (n k : ℕ) → Among n k → leastOf top f n ≤ f k
 unfolding leastOf

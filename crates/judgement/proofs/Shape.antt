@@ -7,7 +7,7 @@ use mathlib.Core.List.{List}
 use mathlib.Core.Logic.{_≢_}
 use native.Mathlib.Omega.{arith}
 use lib.Dec.{T, eqb, leb}
-use borrow.Author.Tests.{eq-eqb, leb-true}
+use borrow.Author.Tests.{eq-eqb, eqb-true, leb-true}
 use Rattle.judgement.specs.declared.Finding.{Finding}
 use Rattle.judgement.specs.declared.Finding.the-variants.{Fine, Fault}
 use Rattle.judgement.specs.Meaning.{none}
@@ -17,9 +17,10 @@ use Rattle.judgement.specs.Sheet.{clauses, sheetHead, sheetPairs, clause
 use Rattle.judgement.specs.Record.{claim, claimsNone, steps, step, trueCount, recordHead, strayBit, recordPairs, brokenClause, claimedCost}
 use Rattle.judgement.specs.Step.{Kind, copy, costs, independent, resolution, unknown, kindOf, stepForm, citation}
 use Rattle.judgement.specs.Kinds.{copyFinding, costBound, dependsOn, dependence, independentBound, pivotFinding, resolventFinding, lesserBound, resolutionFinding, kindFinding}
-use Rattle.judgement.specs.Judgement.{oversize, assignmentFinding, stepFinding, close, finding, answerOf, judgement}
-use Rattle.judgement.specs.Demands.{Shape}
+use Rattle.judgement.specs.Judgement.{oversize, assignmentFinding, stepFinding, close, finding, answerOf, judgement, accepts}
+use Rattle.judgement.specs.Demands.{Shape, Accepted}
 use Rattle.judgement.proofs.Scan.{and-l, and-r}
+use Rattle.judgement.proofs.Findings.{IsFine, fine-is}
 
 -- ---- a fault's number is one of document 01's
 
@@ -109,3 +110,19 @@ shape-of s r (Fault number place) p = record {
 pub shape : (s r : List ℕ) → Shape s r (judgement s r)
 unfolding judgement
 shape s r = shape-of s r (finding s r) (finding-numbered s r)
+
+-- ---- acceptance is a finding that is fine
+
+accepts-of : (s r : List ℕ) (f : Finding) → Numbered f → accepts (answerOf s r f) ≡ true → IsFine f
+accepts-of s r Fine p e = refl
+accepts-of s r (Fault number place) p e =
+    let zero-number = eqb-true number 0 e in
+    absurd (omega (arith, range number p .0, zero-number))
+
+pub accepts-fine : (s r : List ℕ) → Accepted s r → IsFine (finding s r)
+unfolding judgement
+accepts-fine s r e = accepts-of s r (finding s r) (finding-numbered s r) e
+
+pub fine-accepts : (s r : List ℕ) → IsFine (finding s r) → Accepted s r
+unfolding judgement
+fine-accepts s r e = rw (fine-is (finding s r) e)
