@@ -22,7 +22,7 @@ use Rattle.judgement.proofs.Models.{satisfied-satisfies, satisfies-sati
 -- ---- searching all assignments
 
 -- the two say the same of variables 1 to n
-abbrev Agree : ℕ → Assignment → Assignment → Type 0
+abbrev pub Agree : ℕ → Assignment → Assignment → Type 0
 Agree n α β = (v : ℕ) → Among n v → α v ≡ β v
 
 -- the test looks at variables 1 to n alone
@@ -97,14 +97,14 @@ not-less a b h = go (decLt b a)
     go (no l) = omega (arith, l)
 
 module _ (s : List ℕ) (valid : ValidSheet s) where
-  model-local : (α β : Assignment) → Agree (variables s) α β → Model (problemOf s) α → Model (problemOf s) β
+  pub model-local : (α β : Assignment) → Agree (variables s) α β → Model (problemOf s) α → Model (problemOf s) β
   model-local α β h m k l u =
       let (c, inC, e) = m k l u in
       let (i, w, q) = holds-in (clause s k) c inC in
       let range = rw q at (valid .lists k (l, u) .variables .range i w) in
       (c, inC, sym (literal-local (variables s) α β c h range) ∙ e)
 
-  cost-local : (α β : Assignment) → Agree (variables s) α β → cost (problemOf s) α ≡ cost (problemOf s) β
+  pub cost-local : (α β : Assignment) → Agree (variables s) α β → cost (problemOf s) α ≡ cost (problemOf s) β
   unfolding cost
   cost-local α β h = sum-same _ _ (variables s) (λ v w. rw (h v w))
 

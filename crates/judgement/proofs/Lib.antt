@@ -20,5 +20,12 @@ pub mod Typed
 pub mod Codes
 pub mod Paths
 pub mod Tree
+pub mod Bytes
+pub mod Stored
+pub mod Tables
+pub mod Packed
+pub mod Bodies
+pub mod Written
 pub mod Least
+pub mod Promised
 pub mod Cases

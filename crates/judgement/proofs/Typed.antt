@@ -42,7 +42,7 @@ abbrev pub bodiesOf : List Typed → List (List ℕ)
 bodiesOf [] = []
 bodiesOf (t ∷ ts) = bodyOf t ∷ bodiesOf ts
 
--- step k of the list, from 1; any other number gives a step that nothing obeys
+-- step k of the list, from 1; past the end some step, which nothing cites
 abbrev pub nth : List Typed → ℕ → Typed
 nth ts k = getD ts (k - 1) (costStep [] 0)
 
