@@ -1,15 +1,11 @@
 -- A record is accepted exactly when the facts of acceptance hold.
 -- Assumes nothing.
 use Prim.Native.Nat.{ℕ}
-use mathlib.Core.Path.{_≡_}
 use mathlib.Core.List.{List}
-use mathlib.Core.Logic.{_≢_}
-use Rattle.judgement.specs.Finding.{_then_, overAll}
-use Rattle.judgement.specs.Sheet.{clauses, sheetFinding}
-use Rattle.judgement.specs.Record.{steps, recordHead, strayBit, recordPairs}
-use Rattle.judgement.specs.Judgement.{oversize, assignmentFinding, stepFinding, close, finding}
-use Rattle.judgement.specs.Facts.{ValidSheet, RecordLayout, Acceptable}
-use Rattle.judgement.specs.Demands.{Accepted, ExactlyWhen}
+use Rattle.judgement.specs.Record.{steps}
+use Rattle.judgement.specs.Judgement.{stepFinding, finding}
+use Rattle.judgement.specs.Facts.{Acceptable}
+use Rattle.judgement.specs.Demands.{ExactlyWhen}
 use Rattle.judgement.proofs.Findings.{IsFine, then-of, then-l, then-r, over-each, over-of}
 use Rattle.judgement.proofs.Layouts.{oversize-facts, facts-oversize, sheet-valid, valid-sheet, record-layout, layout-record, assignment-model, model-assignment, close-facts, facts-close}
 use Rattle.judgement.proofs.Inferences.{step-facts, facts-step}

@@ -95,7 +95,7 @@ unsettled-true α D C falsified (c, held, t) open-yet positive-yet =
     ]
 
 -- which costs no less than the least one
-least-unsettled : (s D C : List ℕ) (i : ℕ) → Among (count C) i → (Mentions D (variable C i) → ⊥)
+pub least-unsettled : (s D C : List ℕ) (i : ℕ) → Among (count C) i → (Mentions D (variable C i) → ⊥)
     → leastUnsettled s D C ≤ costOf s (variable C i)
 unfolding leastUnsettled
 least-unsettled s D C i w out =

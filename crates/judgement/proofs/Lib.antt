@@ -16,6 +16,7 @@ pub mod Truth
 pub mod Cost
 pub mod Entail
 pub mod Sound
+pub mod LeastCost
 pub mod Typed
 pub mod Codes
 pub mod Paths

@@ -4,16 +4,16 @@ use Prim.Native.Nat.{ℕ, zero, suc, _<_}
 use mathlib.Core.Path.{_≡_, refl, sym, ap, _∙_}
 use mathlib.Core.Bool.{Bool, true, false, cond, true≢false}
 use mathlib.Core.List.{List, [], _∷_, _++_}
-use mathlib.Core.Logic.{_↔_, _≢_}
+use mathlib.Core.Logic.{_≢_}
 use native.Mathlib.Omega.{arith}
 use lib.ListN.{getD}
 use Rattle.judgement.specs.declared.Finding.{Finding}
 use Rattle.judgement.specs.declared.Finding.the-variants.{Fine, Fault}
-use Rattle.judgement.specs.Finding.{need, isFine, _then_, overAll}
+use Rattle.judgement.specs.Finding.{isFine, _then_, overAll}
 use Rattle.judgement.specs.Pairs.{pairFinding, pairsFinding}
-use Rattle.judgement.specs.Sheet.{clauses, clausePairsAt, clause, sheetFinding, sheetPairs, clauseForm}
+use Rattle.judgement.specs.Sheet.{clauses, clause, sheetFinding, sheetPairs, clauseForm}
 use Rattle.judgement.specs.Step.{Kind, copy, costs, independent, resolution, unknown, kindOf, literals, cited}
-use Rattle.judgement.specs.Record.{claimsNone, steps, stepPairsAt, step, recordPairs, brokenClause, claimedCost}
+use Rattle.judgement.specs.Record.{claimsNone, steps, step, recordPairs, brokenClause, claimedCost}
 use Rattle.judgement.specs.Kinds.{dependsOn, dependence, resolutionFinding, kindFinding}
 use Rattle.judgement.specs.Judgement.{assignmentFinding, stepFinding, finding, answerOf, judgement}
 use Rattle.judgement.specs.Order.{each, pairTests, dependenceTests, resolutionTests, kindTests, stepTests, assignmentTests, tests, FirstFault}

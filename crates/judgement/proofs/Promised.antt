@@ -2,20 +2,18 @@
 -- Assumes nothing.
 use Prim.Native.Nat.{ℕ, _*_, _≤_, _<_}
 use mathlib.Core.Path.{_≡_, refl, sym, _∙_}
-use mathlib.Core.Bool.{Bool, true, false, _&&_}
+use mathlib.Core.Bool.{false}
 use mathlib.Core.List.{List}
-use mathlib.Core.Logic.{_≢_, _↔_}
 use native.Mathlib.Omega.{arith}
 use native.Mathlib.Nat.{le-refl}
 use lib.ListN.{replicate, length-replicate}
-use lib.Dec.{leb}
 use borrow.Author.Tests.{le-leb, lt-leb}
 use Rattle.judgement.specs.Meaning.{Assignment, cost, Model, Least, Unsatisfiable, none}
 use Rattle.judgement.specs.Sheet.{variables, problemOf}
-use Rattle.judgement.specs.Record.{claim, assigned, assignmentSize}
+use Rattle.judgement.specs.Record.{assigned, assignmentSize}
 use Rattle.judgement.specs.Writer.{assignmentOf, recordOf}
-use Rattle.judgement.specs.Facts.{Among, ValidSheet, Acceptable}
-use Rattle.judgement.specs.Demands.{IsBytes, Accepted, Sound, SomeSteps, Complete}
+use Rattle.judgement.specs.Facts.{ValidSheet}
+use Rattle.judgement.specs.Demands.{IsBytes, Sound, SomeSteps, Complete}
 use Rattle.judgement.proofs.Accepted.{exactly-when}
 use Rattle.judgement.proofs.Cost.{cost-below-none}
 use Rattle.judgement.proofs.Sound.{bound-holds, sound-facts}

@@ -2,11 +2,11 @@
 -- Assumes nothing.
 use Prim.Native.Nat.{ℕ, _≤_, _<_}
 use mathlib.Core.Path.{_≡_}
-use mathlib.Core.Bool.{true, false}
+use mathlib.Core.Bool.{true}
 use mathlib.Core.List.{List, []}
 use mathlib.Core.Logic.{_↔_, _≢_}
 use lib.ListN.{getD, replicate}
-use Rattle.judgement.specs.Meaning.{Assignment, Problem, cost, Model, Least, Unsatisfiable, none}
+use Rattle.judgement.specs.Meaning.{Assignment, cost, Model, Least, Unsatisfiable, none}
 use Rattle.judgement.specs.Sheet.{variables, problemOf}
 use Rattle.judgement.specs.Record.{claim, steps, assigned, assignmentSize, trueCount}
 use Rattle.judgement.specs.Judgement.{judgement, accepts}
