@@ -30,3 +30,4 @@ pub mod Written
 pub mod Least
 pub mod Promised
 pub mod Cases
+pub mod Shortcuts

@@ -13,7 +13,7 @@ use Rattle.judgement.specs.Sheet.{variables, problemOf}
 use Rattle.judgement.specs.Record.{assigned, assignmentSize}
 use Rattle.judgement.specs.Writer.{assignmentOf, recordOf}
 use Rattle.judgement.specs.Facts.{ValidSheet}
-use Rattle.judgement.specs.Demands.{IsBytes, Sound, SomeSteps, Complete}
+use Rattle.judgement.specs.Demands.{IsBytes, Accepted, Sound, SomeSteps, Complete}
 use Rattle.judgement.proofs.Accepted.{exactly-when}
 use Rattle.judgement.proofs.Cost.{cost-below-none}
 use Rattle.judgement.proofs.Sound.{bound-holds, sound-facts}
@@ -44,7 +44,7 @@ stored-spare c n α bodies v l h = record-packed c n α bodies v (omega arith) h
 module _ (s : List ℕ) (bytes : IsBytes s) (valid : ValidSheet s) (few : variables s ≤ 16) where
   -- accepted, so not dearer than any model, the cheapest among them
   least-of : (α : Assignment) → Model (problemOf s) α → (L : ℕ) → Least (problemOf s) L
-      → SomeSteps s (cost (problemOf s) α) (assignmentOf (variables s) α) → cost (problemOf s) α ≡ L
+      → SomeSteps Accepted s (cost (problemOf s) α) (assignmentOf (variables s) α) → cost (problemOf s) α ≡ L
   least-of α m L least (bodies, are-bytes, ok) =
       let c = cost (problemOf s) α in
       let small = cost-below-none s bytes (valid .n .1) α in
@@ -56,7 +56,7 @@ module _ (s : List ℕ) (bytes : IsBytes s) (valid : ValidSheet s) (few : variab
 
   -- the least, so the decision tree's steps close
   of-least : (α : Assignment) → Model (problemOf s) α → (L : ℕ) → Least (problemOf s) L → cost (problemOf s) α ≡ L
-      → SomeSteps s (cost (problemOf s) α) (assignmentOf (variables s) α)
+      → SomeSteps Accepted s (cost (problemOf s) α) (assignmentOf (variables s) α)
   of-least α m L least e =
       let (ts, derivation, reaches) = tree s bytes valid few in
       let c = cost (problemOf s) α in
@@ -77,12 +77,12 @@ module _ (s : List ℕ) (bytes : IsBytes s) (valid : ValidSheet s) (few : variab
 
   -- ---- "none"
 
-  none-of : SomeSteps s none (replicate (assignmentSize (variables s)) 0) → Unsatisfiable (problemOf s)
+  none-of : SomeSteps Accepted s none (replicate (assignmentSize (variables s)) 0) → Unsatisfiable (problemOf s)
   none-of (bodies, are-bytes, ok) =
       sound s (recordOf none (replicate (assignmentSize (variables s)) 0) bodies) bytes .none-exists ok
       (record-claim none (replicate (assignmentSize (variables s)) 0) bodies (le-refl none))
 
-  of-none : Unsatisfiable (problemOf s) → SomeSteps s none (replicate (assignmentSize (variables s)) 0)
+  of-none : Unsatisfiable (problemOf s) → SomeSteps Accepted s none (replicate (assignmentSize (variables s)) 0)
   of-none breaks =
       let (ts, derivation, reaches) = tree s bytes valid few in
       let w = assignmentSize (variables s) in
