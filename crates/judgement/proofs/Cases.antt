@@ -14,7 +14,7 @@ use Rattle.judgement.specs.Computed.{Case, accepted, refused, right, all
 
 -- ---- sheet A and record A, byte for byte
 
-sheetA : List ℕ
+unfoldable pub sheetA : List ℕ
 sheetA =
     0x02 ∷ 0x00 ∷ 0x02 ∷ 0x00  -- n 2, m 2
     ∷ 0x03 ∷ 0x00 ∷ 0x00 ∷ 0x00 ∷ 0x05 ∷ 0x00 ∷ 0x00 ∷ 0x00  -- costs 3 and 5
@@ -24,7 +24,7 @@ sheetA =
     ∷ 0x02 ∷ 0x00 ∷ 0x05 ∷ 0x00  -- 1 open, 2 shut
     ∷ []
 
-recordA : List ℕ
+unfoldable pub recordA : List ℕ
 recordA =
     0x03 ∷ 0x00 ∷ 0x00 ∷ 0x00 ∷ 0x00 ∷ 0x00 ∷ 0x00 ∷ 0x00  -- claim 3
     ∷ 0x05 ∷ 0x00 ∷ 0x00 ∷ 0x00  -- 5 steps
@@ -54,7 +54,7 @@ clause codes = numbersOf 2 codes
 copyStep : List ℕ → ℕ → List ℕ
 copyStep codes cited = stepOf 1 codes none (bytesOf 4 cited)
 
-costStep : List ℕ → ℕ → List ℕ
+unfoldable pub costStep : List ℕ → ℕ → List ℕ
 costStep codes bound = stepOf 2 codes bound []
 
 independentStep : List ℕ → ℕ → List ℕ → List ℕ
@@ -64,10 +64,10 @@ resolutionStep : List ℕ → ℕ → ℕ → ℕ → ℕ → List ℕ
 resolutionStep codes bound a b p = stepOf 4 codes bound (bytesOf 4 a ++ bytesOf 4 b ++ bytesOf 2 p)
 
 -- one variable of cost 7 and no clause
-sheetB1 : List ℕ
+unfoldable pub sheetB1 : List ℕ
 sheetB1 = sheetOf (7 ∷ []) []
 
-recordB1 : List ℕ
+unfoldable pub recordB1 : List ℕ
 recordB1 = recordOf 0 (0x00 ∷ []) (costStep [] 0 ∷ [])
 
 -- one variable and the empty clause

@@ -12,7 +12,7 @@ use Rattle.judgement.specs.Finding.{need, _then_, overAll}
 use Rattle.judgement.specs.Literals.{count, code, variable, holds, mentions, sameLiterals}
 use Rattle.judgement.specs.Sheet.{costOf, clause}
 use Rattle.judgement.specs.Record.{step}
-use Rattle.judgement.specs.Step.{Kind, copy, costs, independent, resolution, unknown, kindOf, bound, literals, cited, citedCount, pivotOf}
+use Rattle.judgement.specs.Step.{Kind, copy, costs, independent, resolution, unknown, bound, literals, cited, citedCount, pivotOf}
 
 -- ---- kind 1: a clause of the sheet
 

@@ -10,4 +10,7 @@ pub mod Step
 pub mod Kinds
 pub mod Judgement
 pub mod Writer
+pub mod Order
+pub mod Facts
+pub mod Demands
 pub mod Computed

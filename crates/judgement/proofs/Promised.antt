@@ -1,0 +1,112 @@
+-- Demand 3: what acceptance says of every valid sheet, and which claims about a sheet of at most 16 variables are accepted.
+-- Assumes nothing.
+use Prim.Native.Nat.{ℕ, _*_, _≤_, _<_}
+use mathlib.Core.Path.{_≡_, refl, sym, _∙_}
+use mathlib.Core.Bool.{false}
+use mathlib.Core.List.{List}
+use native.Mathlib.Omega.{arith}
+use native.Mathlib.Nat.{le-refl}
+use lib.ListN.{replicate, length-replicate}
+use borrow.Author.Tests.{le-leb, lt-leb}
+use Rattle.judgement.specs.Meaning.{Assignment, cost, Model, Least, Unsatisfiable, none}
+use Rattle.judgement.specs.Sheet.{variables, problemOf}
+use Rattle.judgement.specs.Record.{assigned, assignmentSize}
+use Rattle.judgement.specs.Writer.{assignmentOf, recordOf}
+use Rattle.judgement.specs.Facts.{ValidSheet}
+use Rattle.judgement.specs.Demands.{IsBytes, Accepted, Sound, SomeSteps, Complete}
+use Rattle.judgement.proofs.Accepted.{exactly-when}
+use Rattle.judgement.proofs.Cost.{cost-below-none}
+use Rattle.judgement.proofs.Sound.{bound-holds, sound-facts}
+use Rattle.judgement.proofs.Typed.{bodiesOf}
+use Rattle.judgement.proofs.Tree.{tree}
+use Rattle.judgement.proofs.Packed.{packed-length}
+use Rattle.judgement.proofs.Written.{record-claim, record-packed, record-clear, written-bytes, written-acceptable}
+use Rattle.judgement.proofs.Least.{Agree, model-local, cost-local, least-exists}
+
+pub sound : (s r : List ℕ) → IsBytes s → Sound s r
+sound s r bytes = record {
+  least = λ ok. sound-facts s r bytes (exactly-when s r .0 ok) .0;
+  none-exists = λ ok. sound-facts s r bytes (exactly-when s r .0 ok) .1;
+}
+
+-- ---- a model's record
+
+-- the assignment that a record of α stores says what α says of variables 1 to n
+stored-agrees : (c n : ℕ) (α : Assignment) (bodies : List (List ℕ)) → Agree n α (assigned (recordOf c (assignmentOf n α) bodies))
+stored-agrees c n α bodies v w =
+    let h : v ≤ 8 * assignmentSize n = omega (arith, w .1) in
+    sym (record-packed c n α bodies v (w .0) h ∙ rw (le-leb v n (w .1)))
+
+stored-spare : (c n : ℕ) (α : Assignment) (bodies : List (List ℕ)) (v : ℕ) → n < v → v ≤ 8 * assignmentSize n
+    → assigned (recordOf c (assignmentOf n α) bodies) v ≡ false
+stored-spare c n α bodies v l h = record-packed c n α bodies v (omega arith) h ∙ rw (lt-leb v n l)
+
+module _ (s : List ℕ) (bytes : IsBytes s) (valid : ValidSheet s) (few : variables s ≤ 16) where
+  -- accepted, so not dearer than any model, the cheapest among them
+  least-of : (α : Assignment) → Model (problemOf s) α → (L : ℕ) → Least (problemOf s) L
+      → SomeSteps Accepted s (cost (problemOf s) α) (assignmentOf (variables s) α) → cost (problemOf s) α ≡ L
+  least-of α m L least (bodies, are-bytes, ok) =
+      let c = cost (problemOf s) α in
+      let small = cost-below-none s bytes (valid .n .1) α in
+      let claim-is = record-claim c (assignmentOf (variables s) α) bodies (omega (arith, small)) in
+      let (β, mb, e) = least .reached in
+      let high = bound-holds s (recordOf c (assignmentOf (variables s) α) bodies) (exactly-when s (recordOf c (assignmentOf (variables s) α) bodies) .0 ok) β mb in
+      let low = least .below α m in
+      omega (arith, claim-is, e, high, low)
+
+  -- the least, so the decision tree's steps close
+  of-least : (α : Assignment) → Model (problemOf s) α → (L : ℕ) → Least (problemOf s) L → cost (problemOf s) α ≡ L
+      → SomeSteps Accepted s (cost (problemOf s) α) (assignmentOf (variables s) α)
+  of-least α m L least e =
+      let (ts, derivation, reaches) = tree s bytes valid few in
+      let c = cost (problemOf s) α in
+      let small = cost-below-none s bytes (valid .n .1) α in
+      let c-small : c ≤ none = omega (arith, small) in
+      let agree = stored-agrees c (variables s) α (bodiesOf ts) in
+      let floor = reaches c c-small (λ β mb. let h = least .below β mb in omega (arith, h, e)) in (
+        bodiesOf ts,
+        written-bytes ts,
+        exactly-when s (recordOf c (assignmentOf (variables s) α) (bodiesOf ts)) .1
+            (written-acceptable s valid few ts derivation c c-small (assignmentOf (variables s) α) (packed-length (variables s) α)
+            (stored-spare c (variables s) α (bodiesOf ts))
+            (λ z. absurd (omega (arith, small, z)))
+            (λ some. model-local s valid α (assigned (recordOf c (assignmentOf (variables s) α) (bodiesOf ts))) agree m)
+            (λ some. sym (cost-local s valid α (assigned (recordOf c (assignmentOf (variables s) α) (bodiesOf ts))) agree))
+            floor),
+      )
+
+  -- ---- "none"
+
+  none-of : SomeSteps Accepted s none (replicate (assignmentSize (variables s)) 0) → Unsatisfiable (problemOf s)
+  none-of (bodies, are-bytes, ok) =
+      sound s (recordOf none (replicate (assignmentSize (variables s)) 0) bodies) bytes .none-exists ok
+      (record-claim none (replicate (assignmentSize (variables s)) 0) bodies (le-refl none))
+
+  of-none : Unsatisfiable (problemOf s) → SomeSteps Accepted s none (replicate (assignmentSize (variables s)) 0)
+  of-none breaks =
+      let (ts, derivation, reaches) = tree s bytes valid few in
+      let w = assignmentSize (variables s) in
+      let clear : (v : ℕ) → 1 ≤ v → v ≤ 8 * w → assigned (recordOf none (replicate w 0) (bodiesOf ts)) v ≡ false = record-clear none w (bodiesOf ts) in
+      let floor = reaches none (le-refl none) (λ β mb. absurd (no-model β mb)) in (
+        bodiesOf ts,
+        written-bytes ts,
+        exactly-when s (recordOf none (replicate w 0) (bodiesOf ts)) .1
+            (written-acceptable s valid few ts derivation none (le-refl none) (replicate w 0) (length-replicate w 0)
+            (λ v l h. clear v (omega arith) h)
+            (λ z v u. clear v (u .0) (omega (arith, u .1)))
+            (λ some. absurd (some refl))
+            (λ some. absurd (some refl))
+            floor),
+      )
+    where
+      no-model : (β : Assignment) → Model (problemOf s) β → ⊥
+      no-model β m =
+          let (k, l, h, out) = breaks β in
+          out (m k l h)
+
+pub complete : (s : List ℕ) → IsBytes s → Complete s
+complete s bytes = record {
+  least = λ valid few α m L least. (least-of s bytes valid few α m L least, of-least s bytes valid few α m L least);
+  exists = λ valid few. least-exists s valid;
+  none-exists = λ valid few. (none-of s bytes valid few, of-none s bytes valid few);
+}
