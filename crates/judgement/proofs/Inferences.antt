@@ -65,21 +65,19 @@ inference-passes s r k list lists (Inference.resolution h) =
 
 -- ---- the step: its form, what it cites, its kind
 
-step-layout : (s r : List ℕ) (k : ℕ) → IsFine (stepForm s r k) → StepLayout s (step s r k)
+step-layout : (s b : List ℕ) (k : ℕ) → IsFine (stepForm s b k) → StepLayout s b
 unfolding stepForm
-step-layout s r k fine =
-    let b = step s r k in
+step-layout s b k fine =
     record {
       room = leb-true (12 + 2 * literalCount b) (length b) (search (need-true, and-l, and-r));
       zero = eqb-true (numberAt b 1 1) 0 (search (need-true, and-l, and-r));
       list = fine-list (variables s) (literals b) (search (need-true, and-l, and-r));
     }
 
-pub step-facts : (s r : List ℕ) (k : ℕ) → ((j : ℕ) → Among (clauses s) j → LiteralList (variables s) (clause s j))
-    → IsFine (stepFinding s r k) → StepLayout s (step s r k) × Inference s r k
+pub step-facts : (s r : List ℕ) (k : ℕ) → IsFine (stepFinding s r k) → StepLayout s (step s r k) × Inference s r k
 unfolding stepFinding stepForm citation
-step-facts s r k lists fine = (
-  step-layout s r k (search (then-l)),
+step-facts s r k fine = (
+  step-layout s (step s r k) k (search (then-l)),
   passes-inference (kindOf (step s r k)) s r k (kind-begins (step s r k))
       (search (need-true, then-l, then-r, and-r), search (need-true, then-l, then-r), search (then-r)),
 )

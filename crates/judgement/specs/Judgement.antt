@@ -28,7 +28,7 @@ assignmentFinding s r = cond (claimsNone r) Fine (overAll (brokenClause s r) (cl
 
 -- of step k: 8, 9 and the numbers of its kind
 unfoldable pub stepFinding : List ℕ → List ℕ → ℕ → Finding
-stepFinding s r k = stepForm s r k then citation s r k then kindFinding (kindOf (step s r k)) s r k
+stepFinding s r k = stepForm s (step s r k) k then citation s (step s r k) k then kindFinding (kindOf (step s r k)) s r k
 
 -- 19, close: step t has literals, or a bound below the claim
 unfoldable pub close : List ℕ → List ℕ → Finding
