@@ -74,6 +74,9 @@ abbrev pub bytesIn : List ℕ → List ℕ → File → List ℕ
 bytesIn s r sheetFile = s
 bytesIn s r recordFile = r
 
+abbrev pub partBytes : List ℕ → List ℕ → Part → List ℕ
+partBytes s r p = take (p .size) (drop (p .start) (bytesIn s r (p .file)))
+
 abbrev pub clausePart : List ℕ → ℕ → Part
 clausePart s c = record { file = sheetFile; start = pairOffset s (clausePairsAt s) c; size = pairLength s (clausePairsAt s) c }
 
@@ -97,4 +100,4 @@ shownPart s r k =
 
 -- the bytes shown
 unfoldable pub shown : List ℕ → List ℕ → ℕ → List ℕ
-shown s r k = take (shownPart s r k .size) (drop (shownPart s r k .start) (bytesIn s r (shownPart s r k .file)))
+shown s r k = partBytes s r (shownPart s r k)
