@@ -2,7 +2,7 @@
 -- what showing shows.
 -- Assumes nothing.
 use Prim.Native.Nat.{ℕ, _+_, _*_}
-use mathlib.Core.Bool.{Bool, cond, _&&_}
+use mathlib.Core.Bool.{Bool, true, false, cond, _&&_}
 use mathlib.Core.List.{List}
 use lib.ListN.{length, take, drop}
 use lib.Dec.{eqb, leb}
@@ -15,6 +15,7 @@ use Rattle.judgement.specs.Record.{claim, claimsNone, steps, stepPairsAt
 use Rattle.judgement.specs.Step.{Kind, copy, costs, independent, resolution, unknown, kindOf, literalCount, bound, cited, stepForm, citation}
 use Rattle.judgement.specs.Kinds.{kindFinding}
 use Rattle.judgement.specs.declared.Answer.{Answer}
+use Rattle.judgement.specs.declared.Part.{Part}
 
 -- ---- the refusals that are left, and the order of all
 
@@ -61,27 +62,11 @@ accepts a = eqb (a .number) 0
 
 -- ---- showing
 
--- a part of one of the two files
-pub data File : Type 0 where
-  sheetFile recordFile : File
-
-pub record Part : Type 0 where
-  pub file : File
-  pub start : ℕ
-  pub size : ℕ
-
-abbrev pub bytesIn : List ℕ → List ℕ → File → List ℕ
-bytesIn s r sheetFile = s
-bytesIn s r recordFile = r
-
-abbrev pub partBytes : List ℕ → List ℕ → Part → List ℕ
-partBytes s r p = take (p .size) (drop (p .start) (bytesIn s r (p .file)))
-
 abbrev pub clausePart : List ℕ → ℕ → Part
-clausePart s c = record { file = sheetFile; start = pairOffset s (clausePairsAt s) c; size = pairLength s (clausePairsAt s) c }
+clausePart s c = record { «in_sheet» = true; start = pairOffset s (clausePairsAt s) c; size = pairLength s (clausePairsAt s) c }
 
 abbrev pub literalsPart : List ℕ → List ℕ → ℕ → Part
-literalsPart s r k = record { file = recordFile; start = pairOffset r (stepPairsAt s) k + 12; size = 2 * literalCount (step s r k) }
+literalsPart s r k = record { «in_sheet» = false; start = pairOffset r (stepPairsAt s) k + 12; size = 2 * literalCount (step s r k) }
 
 -- of kind 1 the clause's body in the sheet, else the literals in the step
 unfoldable pub stepPart : Kind → List ℕ → List ℕ → ℕ → Part
@@ -96,7 +81,10 @@ unfoldable pub shownPart : List ℕ → List ℕ → ℕ → Part
 shownPart s r k =
     cond (accepts (judgement s r) && leb 1 k && leb k (steps r))
     (stepPart (kindOf (step s r k)) s r k)
-    (record { file = recordFile; start = 0; size = 0 })
+    (record { «in_sheet» = false; start = 0; size = 0 })
+
+abbrev pub partBytes : List ℕ → List ℕ → Part → List ℕ
+partBytes s r p = take (p .size) (drop (p .start) (cond (p .«in_sheet») s r))
 
 -- the bytes shown
 unfoldable pub shown : List ℕ → List ℕ → ℕ → List ℕ
