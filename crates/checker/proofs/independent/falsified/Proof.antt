@@ -1,0 +1,14 @@
+-- `checker::independent::falsified` meets its contract, by the sign of the literal.
+-- Assumes nothing.
+use borrow.Author.Tests.{eq-eqb, ne-eqb}
+use Rattle.checker.proofs.independent.falsified.Statement.{statement}
+use Rattle.checker.proofs.independent.falsified.Tie as tie
+
+returns : tie.Need-returns
+returns c = rw (eq-eqb _ _ (c .if1 .taken))
+
+returns-2 : tie.Need-returns-2
+returns-2 c = rw (ne-eqb _ _ (c .if1 .left))
+
+pub falsified-spec : {M : Type 1} → statement M
+falsified-spec = tie.close (tie.spec returns returns-2)

@@ -1,0 +1,24 @@
+-- A list of known length with each place stored to is the list of what was stored.
+-- Assumes nothing.
+use Prim.Native.Nat.{ℕ}
+use mathlib.Core.Path.{_≡_, refl}
+use mathlib.Core.List.{List, [], _∷_}
+use native.Mathlib.Omega.{arith}
+use lib.ListN.{length, set}
+
+pub three : (l : List ℕ) → length l ≡ 3 → (a b c : ℕ) → set (set (set l 0 a) 1 b) 2 c ≡ a ∷ b ∷ c ∷ []
+three [] h a b c = absurd (omega arith)
+three (x ∷ []) h a b c = absurd (omega arith)
+three (x ∷ y ∷ []) h a b c = absurd (omega arith)
+three (x ∷ y ∷ z ∷ []) h a b c = refl
+three (x ∷ y ∷ z ∷ u ∷ l) h a b c = absurd (omega arith)
+
+pub five : (l : List ℕ) → length l ≡ 5 → (a b c d e : ℕ)
+    → set (set (set (set (set l 0 a) 1 b) 2 c) 3 d) 4 e ≡ a ∷ b ∷ c ∷ d ∷ e ∷ []
+five [] h a b c d e = absurd (omega arith)
+five (x ∷ []) h a b c d e = absurd (omega arith)
+five (x ∷ y ∷ []) h a b c d e = absurd (omega arith)
+five (x ∷ y ∷ z ∷ []) h a b c d e = absurd (omega arith)
+five (x ∷ y ∷ z ∷ u ∷ []) h a b c d e = absurd (omega arith)
+five (x ∷ y ∷ z ∷ u ∷ v ∷ []) h a b c d e = refl
+five (x ∷ y ∷ z ∷ u ∷ v ∷ w ∷ l) h a b c d e = absurd (omega arith)

@@ -1,0 +1,19 @@
+-- `exports::plan_show` meets its contract.
+-- Assumes nothing.
+use mathlib.Core.Path.{ap, _∙_}
+use Rattle.exports.specs.Numbers.{partNumbers}
+use borrow.Author.Needs.{needs}
+use Rattle.exports.proofs.plan_show.Statement.{statement}
+use Rattle.exports.proofs.plan_show.Tie as tie
+
+shown-part-requires : tie.Need-shown-part-requires
+shown-part-requires c κs = search needs
+
+put-part-requires : tie.Need-put-part-requires
+put-part-requires c κs = search needs
+
+returns : tie.Need-returns
+returns c = c .put-part .ensures ∙ ap partNumbers (c .before .before .shown-part .ensures)
+
+pub plan-show-spec : {M : Type 1} → statement M
+plan-show-spec = tie.close (tie.spec shown-part-requires put-part-requires returns)

@@ -1,0 +1,13 @@
+-- Answers and parts as lists of numbers.
+-- Assumes nothing.
+use Prim.Native.Nat.{ℕ}
+use mathlib.Core.Bool.{cond}
+use mathlib.Core.List.{List, [], _∷_}
+use Rattle.judgement.specs.declared.Answer.{Answer}
+use Rattle.judgement.specs.declared.Part.{Part}
+
+abbrev pub answerNumbers : Answer → List ℕ
+answerNumbers a = a .number ∷ a .place ∷ a .cost ∷ a .«open_count» ∷ a .«step_count» ∷ []
+
+abbrev pub partNumbers : Part → List ℕ
+partNumbers p = cond (p .«in_sheet») 1 0 ∷ p .start ∷ p .size ∷ []

@@ -1,0 +1,56 @@
+-- `lines::least_line` meets its contract: each part follows what stood before it.
+-- Assumes nothing.
+use native.Mathlib.Omega.{arith}
+use mathlib.Core.Path.{refl}
+use Rattle.lines.specs.Lines.{leastLine}
+use Rattle.lines.proofs.least_line.Statement.{statement}
+use Rattle.lines.proofs.least_line.Tie as tie
+
+slice-aggregate-put-field : tie.Need-slice-aggregate-put-field
+slice-aggregate-put-field c = refl
+
+put-field-requires : tie.Need-put-field-requires
+put-field-requires c κs = omega arith
+
+slice-aggregate-put-field-2 : tie.Need-slice-aggregate-put-field-2
+slice-aggregate-put-field-2 c = refl
+
+put-field-requires-2 : tie.Need-put-field-requires-2
+put-field-requires-2 c κs = omega arith
+
+slice-aggregate-put-field-3 : tie.Need-slice-aggregate-put-field-3
+slice-aggregate-put-field-3 c = refl
+
+put-field-requires-3 : tie.Need-put-field-requires-3
+put-field-requires-3 c κs = omega arith
+
+slice-aggregate-put : tie.Need-slice-aggregate-put
+slice-aggregate-put c = refl
+
+put-requires : tie.Need-put-requires
+put-requires c κs = omega arith
+
+returns : tie.Need-returns
+unfolding leastLine
+returns c =
+    let steps = c .before .before .before in
+    let opens = steps .before .before .before in
+    let cost = opens .before .before .before in (
+      omega arith,
+      omega arith,
+      rw (c .put .ensures .1, steps .put-field3 .ensures .1, opens .put-field2 .ensures .1, cost .put-field .ensures .1),
+    )
+
+pub least-line-spec : {M : Type 1} → statement M
+least-line-spec =
+    tie.close
+    (tie.spec
+    slice-aggregate-put-field
+    put-field-requires
+    slice-aggregate-put-field-2
+    put-field-requires-2
+    slice-aggregate-put-field-3
+    put-field-requires-3
+    slice-aggregate-put
+    put-requires
+    returns)

@@ -1,0 +1,117 @@
+//! The proved checker and the reference checker give the same answers: on every example, on many generated and damaged
+//! records, and on longer ones. A difference prints both files.
+
+use compare::{hex, judge, show};
+use planner::padding::Mix;
+use samples::Sample;
+use std::fs;
+use std::path::Path;
+
+/// How many samples are compared, unless COMPARE_COUNT says otherwise; from which seed, unless COMPARE_SEED does.
+const COUNT: usize = 200_000;
+const SEED: u64 = 2;
+
+fn setting<T: std::str::FromStr>(name: &str, otherwise: T) -> T {
+    let given = std::env::var(name).ok();
+    given.map_or(otherwise, |text| {
+        text.parse()
+            .unwrap_or_else(|_| panic!("{name} is not a number"))
+    })
+}
+
+fn same(sheet: &[u8], record: &[u8], what: &str) -> u32 {
+    let ours = judge(sheet, record);
+    let wanted = reference::judge(sheet, record);
+    assert_eq!(
+        ours,
+        wanted,
+        "{what}\nsheet {}\nrecord {}",
+        hex(sheet),
+        hex(record)
+    );
+    ours.number
+}
+
+fn same_part(sheet: &[u8], record: &[u8], step: u32, what: &str) {
+    let ours = show(sheet, record, step);
+    let wanted = reference::show(sheet, record, u64::from(step));
+    let place = |part: &[u8]| (part.as_ptr() as usize, part.len());
+    assert_eq!(
+        place(ours),
+        place(wanted),
+        "{what}, step {step}\nsheet {}\nrecord {}",
+        hex(sheet),
+        hex(record)
+    );
+}
+
+#[test]
+fn on_every_example() {
+    let examples = Path::new(env!("CARGO_MANIFEST_DIR")).join("../../examples");
+    let mut judged = 0;
+    for entry in fs::read_dir(examples).unwrap() {
+        let folder = entry.unwrap().path();
+        if folder.is_dir() {
+            let [sheet, record] =
+                ["sheet", "record"].map(|name| fs::read(folder.join(name)).unwrap());
+            same(&sheet, &record, &folder.display().to_string());
+            for step in 0..20 {
+                same_part(&sheet, &record, step, &folder.display().to_string());
+            }
+            judged += 1;
+        }
+    }
+    assert_eq!(judged, 16);
+}
+
+#[test]
+fn on_generated_and_damaged_records() {
+    let count = setting("COMPARE_COUNT", COUNT);
+    let seed = setting("COMPARE_SEED", SEED);
+    let mut met = [0usize; 20];
+    for (
+        i,
+        Sample {
+            sheet,
+            record,
+            aimed,
+        },
+    ) in samples::stream(seed).take(count).enumerate()
+    {
+        let number = same(&sheet, &record, aimed);
+        met[number as usize] += 1;
+        // a step number in and around the record's range; every tenth sample, since showing judges again
+        if i % 10 == 0 {
+            same_part(&sheet, &record, (i / 10 % 12) as u32, aimed);
+        }
+    }
+    println!("seed {seed}, {count} samples, by number {met:?}");
+    for number in (0..20).filter(|n| *n != 1) {
+        assert!(met[number] > 0, "no sample met {number}");
+    }
+}
+
+#[test]
+fn on_longer_records() {
+    for (seed, size, mix) in [
+        (1, 300_000, Mix::Mixed),
+        (2, 300_000, Mix::Resolution),
+        (3, 1_000_000, Mix::Mixed),
+    ] {
+        let sample = samples::long(seed, size, mix);
+        assert_eq!(same(&sample.sheet, &sample.record, "long"), 0);
+        let mut damaged = sample.record.clone();
+        let middle = damaged.len() / 2;
+        for place in [middle, damaged.len() - 9, damaged.len() - 1] {
+            damaged[place] ^= 1;
+            same(&sample.sheet, &damaged, "long, one bit changed");
+            damaged[place] ^= 1;
+        }
+    }
+}
+
+#[test]
+fn on_empty_files() {
+    same(&[], &[], "two empty files");
+    same_part(&[], &[], 1, "two empty files");
+}
