@@ -115,3 +115,25 @@ fn on_empty_files() {
     same(&[], &[], "two empty files");
     same_part(&[], &[], 1, "two empty files");
 }
+
+/// A zeroed slice that no memory stands behind until it is touched, or nothing where the machine refuses that much.
+fn sparse(size: usize) -> Option<&'static [u8]> {
+    let layout = std::alloc::Layout::from_size_align(size, 1).ok()?;
+    // SAFETY: the size is not zero, and a block that is not null is zeroed, `size` bytes long and never freed.
+    unsafe {
+        let block = std::alloc::alloc_zeroed(layout);
+        (!block.is_null()).then(|| std::slice::from_raw_parts(block, size))
+    }
+}
+
+#[test]
+fn refusal_1_on_files_of_4_gigabytes() {
+    let Some(too_long) = sparse(4_294_967_296) else {
+        eprintln!("not run: this machine does not lend 4 GiB");
+        return;
+    };
+    let longest = &too_long[1..];
+    assert_eq!(same(too_long, &[], "a sheet that is too long"), 1);
+    assert_eq!(same(&[], too_long, "a record that is too long"), 1);
+    assert_eq!(same(longest, longest, "two files at the limit"), 2);
+}
