@@ -65,6 +65,9 @@ pub fn read_u16(s: &[u8], at: usize) -> usize
 pub fn read_u32(s: &[u8], at: usize) -> usize
     ensures { λ r. ⌜ (r ≡ numberAt (now (s .entry)) at 4) × (r < 2 ^ 32) ⌝ }
 {
+    if 4 <= left(s, at) {
+        return u16_at(s, at) + 65536 * u16_at(s, at + 2);
+    }
     let low = read_u16(s, at);
     if left(s, at) <= 2 {
         return low;

@@ -1,8 +1,9 @@
 //! The proved checker and the reference checker give the same answers: on every example, on many generated and damaged
 //! records, and on longer ones. A difference prints both files.
 
-use compare::{hex, judge, show};
+use compare::{hex, judge};
 use planner::padding::Mix;
+use proved::show;
 use samples::Sample;
 use std::fs;
 use std::path::Path;

@@ -1,0 +1,35 @@
+//! Judges a record from Rust: prints the answer's line; exits with 0 for an acceptance, 1 for a refusal, 2 where it cannot
+//! tell.
+//!
+//! Run, in this folder, after `rt staticlib exports` at the repository's root:
+//!
+//!     cargo run --offline -- SHEET RECORD
+
+use std::io::Write;
+use std::process::ExitCode;
+use std::{env, fs, io};
+
+fn main() -> ExitCode {
+    let words: Vec<_> = env::args_os().skip(1).collect();
+    let [sheet, record] = &words[..] else {
+        eprintln!("usage: judge SHEET RECORD");
+        return ExitCode::from(2);
+    };
+    let (Some(sheet), Some(record)) = (read(sheet.as_ref()), read(record.as_ref())) else {
+        return ExitCode::from(2);
+    };
+    let answer = proved::judge(&sheet, &record);
+    // Not println: it ends the program with another code where the line cannot be written.
+    if writeln!(io::stdout(), "{}", answer.line()).is_err() {
+        return ExitCode::from(2);
+    }
+    ExitCode::from(if answer.accepts() { 0 } else { 1 })
+}
+
+fn read(path: &std::path::Path) -> Option<Vec<u8>> {
+    let bytes = fs::read(path);
+    if bytes.is_err() {
+        eprintln!("cannot read {}", path.display());
+    }
+    bytes.ok()
+}

@@ -1,0 +1,33 @@
+/* The proved plan checker. Link with the static library that `rt staticlib exports` writes.
+ *
+ * A file is its bytes and their number; any bytes are judged, also none. The two calls only read the files, keep nothing,
+ * and may be made from several threads at once. */
+#ifndef PLAN_H
+#define PLAN_H
+
+#include <stddef.h>
+#include <stdint.h>
+
+#ifdef __cplusplus
+extern "C" {
+#endif
+
+/* The claim that no assignment satisfies every clause, and the bound of a step that says so. */
+#define PLAN_NONE UINT64_MAX
+
+/* The places of an answer's numbers. */
+enum { PLAN_NUMBER, PLAN_PLACE, PLAN_COST, PLAN_OPEN_COUNT, PLAN_STEP_COUNT };
+
+/* Judges a record. The number is 0 for an acceptance, with the claim, the count of true variables and the count of steps;
+ * else it is the refusal's, 1 to 19, with its place, and the last three are 0. */
+void plan_judge(const uint8_t *sheet, size_t sheet_len, const uint8_t *record, size_t record_len, uint64_t answer[5]);
+
+/* Where the literals of a step stand: part[0] is 1 for the sheet or 0 for the record, part[1] the first byte, part[2] how many
+ * bytes. Of a refused record, and of a step that is not there, all three are 0. */
+void plan_show(const uint8_t *sheet, size_t sheet_len, const uint8_t *record, size_t record_len, uint32_t step, uint64_t part[3]);
+
+#ifdef __cplusplus
+}
+#endif
+
+#endif

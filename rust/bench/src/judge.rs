@@ -1,0 +1,43 @@
+//! The judgement: the refusals in their order, and the acceptance.
+
+use crate::plan;
+use crate::read::{fault, Fault};
+use crate::record::Record;
+use crate::resolve::Resolve;
+use crate::sheet::Sheet;
+use crate::walk::Walk;
+use proved::Answer;
+
+const LONGEST: u64 = 4_294_967_295;
+
+/// The answer to a sheet and a record of any bytes.
+pub fn judge<R: Resolve>(sheet: &[u8], record: &[u8]) -> Answer {
+    accept::<R>(sheet, record).unwrap_or_else(|Fault { number, place }| Answer {
+        number,
+        place,
+        cost: 0,
+        open_count: 0,
+        step_count: 0,
+    })
+}
+
+fn accept<R: Resolve>(sheet: &[u8], record: &[u8]) -> Result<Answer, Fault> {
+    if sheet.len().max(record.len()) as u64 > LONGEST {
+        return fault(1, 0);
+    }
+    let sheet = Sheet::read(sheet)?;
+    let record = Record::read(record, sheet.variable_count())?;
+    let plan = plan::check(&sheet, &record);
+    let last = Walk::<R>::new(&sheet, &record).run(plan)?;
+    let step_count = record.pairs.len();
+    if !last.literals.is_empty() || last.bound < record.claim {
+        return fault(19, step_count);
+    }
+    Ok(Answer {
+        number: 0,
+        place: 0,
+        cost: record.claim,
+        open_count: record.open_count(),
+        step_count: step_count as u64,
+    })
+}

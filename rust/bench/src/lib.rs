@@ -1,0 +1,20 @@
+//! A checker written for speed in safe Rust, to measure the proved one by. It answers every pair of files as
+//! docs/FORMATS.md says, so that it does the same work; the tests hold it to the reference checker.
+//!
+//! Nothing is allocated for a step. The pairs of the record are gone through once, and each step is checked as its pair is
+//! read: a fault of a step waits until the pairs after it are seen, because theirs is told before it.
+
+#![forbid(unsafe_code)]
+
+mod independent;
+mod judge;
+mod plan;
+mod read;
+mod record;
+mod resolve;
+mod sheet;
+mod step;
+mod walk;
+
+pub use judge::judge;
+pub use resolve::{Marks, Merge, Resolve};

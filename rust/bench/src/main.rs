@@ -1,0 +1,132 @@
+//! Measures the proved checker beside the checker written for speed. `bench/run`, at the repository's root, builds it and
+//! explains it.
+
+use bench::{judge, Marks, Merge};
+use planner::padding::Mix;
+use samples::Sample;
+use std::hint::black_box;
+use std::path::Path;
+use std::time::Instant;
+use std::{env, fs, process};
+
+/// The usage, in full in `bench/run`.
+const USAGE: &str = "usage: bench times MEGABYTES ROUNDS
+       bench write mixed|resolution MEGABYTES FOLDER
+       bench once proved|merge|marks|bytes|nothing FOLDER";
+
+const SEED: u64 = 11;
+const MEGABYTE: usize = 1_000_000;
+const MIXES: [(&str, Mix); 2] = [("mixed", Mix::Mixed), ("resolution", Mix::Resolution)];
+
+type Job = fn(&[u8], &[u8]) -> u64;
+
+/// What is measured. Each gives a number, so that no work can be left out.
+const JOBS: [(&str, Job); 5] = [
+    ("proved", |sheet, record| {
+        proved::judge(sheet, record).step_count
+    }),
+    ("merge", |sheet, record| {
+        judge::<Merge>(sheet, record).step_count
+    }),
+    ("marks", |sheet, record| {
+        judge::<Marks>(sheet, record).step_count
+    }),
+    ("bytes", |sheet, record| byte_sum(sheet) + byte_sum(record)),
+    ("nothing", |_, _| 0),
+];
+
+/// How many of the jobs are timed: what "nothing" does is for the counts only.
+const TIMED: usize = 4;
+
+fn byte_sum(bytes: &[u8]) -> u64 {
+    bytes.iter().map(|byte| u64::from(*byte)).sum()
+}
+
+fn main() {
+    let given: Vec<String> = env::args().skip(1).collect();
+    let words: Vec<&str> = given.iter().map(String::as_str).collect();
+    let done = match words[..] {
+        ["times", size, rounds] => times(size, rounds),
+        ["write", mix, size, folder] => write(mix, size, Path::new(folder)),
+        ["once", job, folder] => once(job, Path::new(folder)),
+        _ => None,
+    };
+    if done.is_none() {
+        eprintln!("{USAGE}");
+        process::exit(2);
+    }
+}
+
+fn bytes_of(megabytes: &str) -> Option<usize> {
+    megabytes.parse::<usize>().ok()?.checked_mul(MEGABYTE)
+}
+
+/// Prints a line of the table for each mix.
+fn times(size: &str, rounds: &str) -> Option<()> {
+    let size = bytes_of(size)?;
+    let rounds = rounds.parse().ok().filter(|rounds| *rounds > 0)?;
+    for (name, mix) in MIXES {
+        let sample = samples::long(SEED, size, mix);
+        println!("{}", line(name, &sample, medians(&sample, rounds)));
+    }
+    Some(())
+}
+
+/// The median time of each job in milliseconds. The jobs take turns, so that a busy moment of the machine meets all of them.
+fn medians(sample: &Sample, rounds: usize) -> [f64; TIMED] {
+    // Short records are judged several times for one time, to be well above the clock's step.
+    let turns = (4 * MEGABYTE / sample.record.len()).max(1);
+    let mut times = [const { Vec::new() }; TIMED];
+    for _ in 0..rounds {
+        for (place, times) in times.iter_mut().enumerate() {
+            let start = Instant::now();
+            for _ in 0..turns {
+                black_box(JOBS[place].1(
+                    black_box(&sample.sheet),
+                    black_box(&sample.record),
+                ));
+            }
+            times.push(start.elapsed().as_secs_f64() * 1000.0 / turns as f64);
+        }
+    }
+    times.map(|mut times| {
+        times.sort_unstable_by(f64::total_cmp);
+        times[times.len() / 2]
+    })
+}
+
+fn line(name: &str, sample: &Sample, [proved, merge, marks, bytes]: [f64; TIMED]) -> String {
+    let steps = proved::judge(&sample.sheet, &sample.record).step_count;
+    let megabytes = sample.record.len() as f64 / MEGABYTE as f64;
+    let faster = merge.min(marks);
+    format!(
+        "| {name} | {megabytes:.1} | {steps} | {proved:.2} | {merge:.2} | {marks:.2} | {bytes:.3} | {:.2} | {:.0} | {:.0} | {:.0} |",
+        proved / faster,
+        proved / bytes,
+        merge / bytes,
+        marks / bytes
+    )
+}
+
+/// Writes a sheet and a record to run `once` on.
+fn write(mix: &str, size: &str, folder: &Path) -> Option<()> {
+    let (_, mix) = MIXES.into_iter().find(|(name, _)| *name == mix)?;
+    let sample = samples::long(SEED, bytes_of(size)?, mix);
+    for (name, bytes) in [("sheet", sample.sheet), ("record", sample.record)] {
+        fs::write(folder.join(name), bytes).unwrap_or_else(|error| fail(name, &error));
+    }
+    Some(())
+}
+
+/// Does one job on the files of a folder, for a tool that counts.
+fn once(job: &str, folder: &Path) -> Option<()> {
+    let (_, job) = JOBS.into_iter().find(|(name, _)| *name == job)?;
+    let read = |name| fs::read(folder.join(name)).unwrap_or_else(|error| fail(name, &error));
+    println!("{}", job(&read("sheet"), &read("record")));
+    Some(())
+}
+
+fn fail(name: &str, error: &std::io::Error) -> ! {
+    eprintln!("{name}: {error}");
+    process::exit(1)
+}

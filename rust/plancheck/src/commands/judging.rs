@@ -1,0 +1,49 @@
+//! The commands that judge a record and say what is in it.
+
+use super::{both, code, print, Outcome};
+use crate::args::Args;
+use crate::{explain, files, stats};
+use std::io::Write;
+
+pub(super) fn judge(args: &Args, out: &mut dyn Write) -> Outcome {
+    let (sheet, record) = both(args)?;
+    let answer = proved::judge(&sheet, &record);
+    print(out, &format!("{}\n", answer.line()))?;
+    Ok(code(&answer))
+}
+
+pub(super) fn explained(args: &Args, out: &mut dyn Write) -> Outcome {
+    let (sheet, record) = both(args)?;
+    let answer = proved::judge(&sheet, &record);
+    for line in explain::explain(&sheet, &record, &answer) {
+        print(out, &format!("{line}\n"))?;
+    }
+    Ok(code(&answer))
+}
+
+pub(super) fn counted(args: &Args, out: &mut dyn Write) -> Outcome {
+    let (sheet, record) = both(args)?;
+    let [sheet_path, record_path] = args.files()?;
+    let read = files::valid_sheet(sheet_path, &sheet)?;
+    let laid_out = files::laid_out(record_path, &sheet, &record)?;
+    let stats = stats::stats(&laid_out);
+    let [copies, costs, independent, resolutions, unreadable] = stats.kinds;
+    let mut lines = vec![
+        proved::judge(&sheet, &record).line(),
+        format!(
+            "sheet: {} variables, {} clauses, {} bytes",
+            read.variables,
+            read.clauses.count(),
+            sheet.len()
+        ),
+        format!("record: {} bytes", record.len()),
+        format!("steps: {} (copy {copies}, cost {costs}, independent {independent}, resolve {resolutions})", laid_out.steps.count()),
+        format!("literals in steps: {}", stats.literals),
+        format!("depth of the last step: {}", stats.depth),
+        format!("steps that the last one rests on: {}", stats.needed),
+    ];
+    if unreadable > 0 {
+        lines.push(format!("bodies that are no step: {unreadable}"));
+    }
+    print(out, &(lines.join("\n") + "\n"))
+}

@@ -1,0 +1,102 @@
+//! Files read once and whole, and the questions to the proved checker that say what can be done with them.
+
+use crate::failure::Failure;
+use crate::record::Record;
+use crate::refusals::sentence;
+use crate::sheet::Sheet;
+use std::fs::File;
+use std::io::{self, IsTerminal, Read, Write};
+use std::path::Path;
+
+/// Files above this many bytes report while they are read.
+const LONG: u64 = 100_000_000;
+const MEGABYTE: u64 = 1_000_000;
+
+pub fn read(path: &Path) -> Result<Vec<u8>, Failure> {
+    read_all(path).map_err(|error| {
+        Failure::Unreadable(format!("{}: cannot be read: {error}", path.display()))
+    })
+}
+
+fn read_all(path: &Path) -> io::Result<Vec<u8>> {
+    let mut file = File::open(path)?;
+    let size = file.metadata()?.len();
+    let mut bytes = Vec::with_capacity(usize::try_from(size).unwrap_or(0));
+    let shown = size > LONG && io::stderr().is_terminal();
+    if !shown {
+        file.read_to_end(&mut bytes)?;
+        return Ok(bytes);
+    }
+    while Read::by_ref(&mut file)
+        .take(LONG / 10)
+        .read_to_end(&mut bytes)?
+        > 0
+    {
+        let read = bytes.len() as u64 / MEGABYTE;
+        let all = size / MEGABYTE;
+        eprint!("\rreading {}: {read} of {all} MB", path.display());
+    }
+    eprintln!();
+    Ok(bytes)
+}
+
+pub fn read_text(path: &Path) -> Result<String, Failure> {
+    String::from_utf8(read(path)?).map_err(|error| {
+        let byte = error.utf8_error().valid_up_to();
+        Failure::Content(format!("{}: byte {byte}: this is no text", path.display()))
+    })
+}
+
+pub fn write(path: &Path, bytes: &[u8]) -> Result<(), Failure> {
+    let written = File::create(path).and_then(|mut file| file.write_all(bytes));
+    written.map_err(|error| {
+        Failure::Unreadable(format!("{}: cannot be written: {error}", path.display()))
+    })
+}
+
+/// The sheet, where the proved checker has nothing against it: with an empty record its refusals come first, and the
+/// record's own is number 5.
+pub fn valid_sheet<'a>(path: &Path, bytes: &'a [u8]) -> Result<Sheet<'a>, Failure> {
+    let answer = proved::judge(bytes, &[]);
+    let sheet = Sheet::open(bytes);
+    if let Some(sheet) = sheet.filter(|_| answer.number == 5) {
+        return Ok(sheet);
+    }
+    let place = answer.place as usize;
+    let byte = match (answer.number, sheet) {
+        (3, Some(sheet)) if place > 0 => sheet.clauses.pair_place(place),
+        (4, Some(sheet)) => sheet.clauses.pair(place).map_or(0, |(start, _)| start),
+        _ => 0,
+    };
+    Err(refused(path, byte, &answer))
+}
+
+/// The record, where the proved checker has nothing against its head and its pairs.
+pub fn laid_out<'a>(path: &Path, sheet: &[u8], bytes: &'a [u8]) -> Result<Record<'a>, Failure> {
+    let variables = Sheet::open(sheet).map_or(0, |sheet| sheet.variables);
+    let record = Record::open(bytes, variables);
+    let mut answer = proved::judge(sheet, bytes);
+    if let Some(record) = record.filter(|_| answer.number == 6) {
+        // A stray bit is told before the pairs: without any bit they are judged.
+        let mut clean = bytes.to_vec();
+        clean[12..12 + record.bits.len()].fill(0);
+        answer = proved::judge(sheet, &clean);
+    }
+    match record.filter(|_| ![1, 5, 7].contains(&answer.number)) {
+        Some(record) => Ok(record),
+        None => {
+            let place = answer.place as usize;
+            let byte = record.filter(|_| answer.number == 7);
+            let byte = byte.map_or(0, |record| record.steps.pair_place(place));
+            Err(refused(path, byte, &answer))
+        }
+    }
+}
+
+fn refused(path: &Path, byte: usize, answer: &proved::Answer) -> Failure {
+    let (line, sentence) = (answer.line(), sentence(answer));
+    Failure::Content(format!(
+        "{}: byte {byte}: {line}\n{sentence}",
+        path.display()
+    ))
+}

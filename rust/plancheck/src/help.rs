@@ -1,0 +1,80 @@
+//! What each command is for, and how it is called.
+
+pub const ALL: &str = "\
+plancheck: judges plans by the proved checker, and shows, writes, plans and imports them
+
+  plancheck judge SHEET RECORD               the answer, as one line
+  plancheck explain SHEET RECORD             the answer in plain words, with its place
+  plancheck stats SHEET RECORD               what the record is made of
+  plancheck text SHEET                       the sheet as text
+  plancheck text --record SHEET RECORD       the record as text
+  plancheck pack TEXT -o FILE                from text back to bytes
+  plancheck plan SHEET -o RECORD             plans the sheet
+  plancheck import FILE.wcnf -o SHEET        a sheet from the weighted DIMACS form
+
+plancheck COMMAND --help says more. docs/GUIDE.md is a first hour with all of them.
+Exit codes: 0 done or accepted, 1 refused, 2 wrong use or a file that cannot be read or written.
+";
+
+pub const JUDGE: &str = "\
+plancheck judge SHEET RECORD
+
+Prints the proved checker's line: 'least C open O steps T', 'none open 0 steps T' or 'refused N at P'.
+Exit code 0 for least and none, 1 for a refusal, 2 for wrong use and files that cannot be read.
+";
+
+pub const EXPLAIN: &str = "\
+plancheck explain SHEET RECORD
+
+Prints the proved checker's line, what it says in plain words, and the place that it names: the clause or the step as text,
+and the clauses, costs or steps that it cites. Exit codes as with judge.
+";
+
+pub const STATS: &str = "\
+plancheck stats SHEET RECORD
+
+Prints the proved checker's line, then counts: steps by kind, literals, bytes, the depth of the last step's derivation, and how
+many earlier steps the last one rests on. Exit code 0 also for a refused record, 1 where the layout cannot be read.
+";
+
+pub const TEXT: &str = "\
+plancheck text SHEET [-o TEXT]
+plancheck text --record SHEET RECORD [-o TEXT]
+
+Writes a valid sheet, or a record whose head and pairs are right, as lines to read and edit; pack is the way back.
+
+  sheet                          record
+  cost 1 3                       variables 2
+  clause 1 -2                    claim 3                           or: claim none
+                                 assign 1                          the variables that are true
+                                 copy 1 : 1 2 bound none           clause 1
+                                 cost : -1 bound 3
+                                 independent 1 2 : -3 bound 5      clauses 1 and 2
+                                 resolve 1 2 on 2 : 1 bound none   steps 1 and 2, pivot 2
+                                 raw 09 00                         bytes that are no step
+
+A literal is a variable's number, negative for a negative literal. # begins a comment. 'assign raw' and bytes stand for an
+assignment with bits that belong to no variable.
+";
+
+pub const PACK: &str = "\
+plancheck pack TEXT -o FILE
+
+Turns the text of a sheet or of a record into the file. See 'plancheck text --help' for the lines. Faults name the line.
+What the file's fields can hold is written, right or wrong; 'plancheck judge' says which.
+";
+
+pub const PLAN: &str = "\
+plancheck plan [--tree] SHEET -o RECORD
+
+Finds a least-cost assignment by branch and bound, writes the record, and prints what the proved checker says to it. This can
+take long on large sheets. --tree tries every assignment instead, for 16 variables at most. Exit codes as with judge.
+";
+
+pub const IMPORT: &str = "\
+plancheck import FILE.wcnf -o SHEET
+
+Reads 'p wcnf VARIABLES CLAUSES TOP' with hard clauses of weight TOP, or the newer form with 'h' in front of hard clauses.
+A soft clause has to be one negative literal: its weight is the variable's cost. What a sheet cannot hold is refused, with the
+line and the reason.
+";

@@ -1,0 +1,22 @@
+//! The plan checker's command line: everything around the proved checker that a person needs to use it.
+//!
+//! Nothing here judges. Every verdict is `proved::judge`'s; the readers below take files apart to show them.
+#![forbid(unsafe_code)]
+
+pub mod args;
+pub mod bodies;
+pub mod commands;
+pub mod explain;
+pub mod failure;
+pub mod files;
+pub mod help;
+pub mod import;
+pub mod pack;
+pub mod places;
+pub mod record;
+pub mod refusals;
+pub mod sheet;
+pub mod stats;
+pub mod steps;
+pub mod text;
+pub mod words;

@@ -1,0 +1,117 @@
+//! From text to bytes. Whatever the fields of a file can hold is written, right or wrong: judging comes later.
+
+mod record;
+
+use crate::words::{Fault, Words};
+use planner::{format, Literal, Problem};
+
+/// What a text turned out to be.
+#[derive(Clone, Copy, Debug, PartialEq, Eq)]
+pub enum Packed {
+    Sheet,
+    Record,
+}
+
+impl Packed {
+    pub fn name(self) -> &'static str {
+        match self {
+            Packed::Sheet => "sheet",
+            Packed::Record => "record",
+        }
+    }
+}
+
+/// The lines that hold something, and at the end the number of the last line.
+struct Lines<'a> {
+    lines: std::iter::Enumerate<std::str::Lines<'a>>,
+    last: usize,
+}
+
+impl<'a> Lines<'a> {
+    fn next(&mut self) -> Option<Words<'a>> {
+        for (place, line) in self.lines.by_ref() {
+            self.last = place + 1;
+            let words = Words::new(place + 1, line);
+            if words.peek().is_some() {
+                return Some(words);
+            }
+        }
+        None
+    }
+
+    /// The next line, which has to begin with this word.
+    fn due(&mut self, word: &str) -> Result<Words<'a>, Fault> {
+        let last = self.last;
+        let mut words = self.next().ok_or(Fault {
+            line: last.max(1),
+            reason: format!("a line '{word}' is due after this one"),
+        })?;
+        words.expect(word)?;
+        Ok(words)
+    }
+}
+
+/// The file that the text describes.
+pub fn pack(text: &str) -> Result<(Packed, Vec<u8>), Fault> {
+    let lines = text.lines().enumerate();
+    let mut lines = Lines { lines, last: 0 };
+    let Some(mut first) = lines.next() else {
+        let reason = "the text is empty: begin with a line 'sheet' or 'record'".into();
+        return Err(Fault { line: 1, reason });
+    };
+    let (packed, bytes) = match first.take() {
+        Some("sheet") => (Packed::Sheet, first.end().and_then(|()| sheet(&mut lines))?),
+        Some("record") => (
+            Packed::Record,
+            first.end().and_then(|()| record::record(&mut lines))?,
+        ),
+        _ => return Err(first.fault("begin with a line 'sheet' or 'record'")),
+    };
+    match u32::try_from(bytes.len()) {
+        Ok(_) => Ok((packed, bytes)),
+        Err(_) => Err(Fault {
+            line: lines.last,
+            reason: "the file grows above 4294967295 bytes".into(),
+        }),
+    }
+}
+
+fn sheet(lines: &mut Lines) -> Result<Vec<u8>, Fault> {
+    let mut problem = Problem {
+        costs: Vec::new(),
+        clauses: Vec::new(),
+    };
+    while let Some(mut words) = lines.next() {
+        match words.take() {
+            Some("cost") if problem.clauses.is_empty() => {
+                problem.costs.push(cost(&mut words, problem.costs.len())?)
+            }
+            Some("cost") => return Err(words.fault("costs stand before the clauses")),
+            Some("clause") => problem.clauses.push(clause(&mut words)?),
+            _ => return Err(words.fault("a sheet has lines 'cost' and 'clause'")),
+        }
+        if problem.costs.len().max(problem.clauses.len()) > usize::from(u16::MAX) {
+            return Err(words.fault("a sheet counts to 65535 at most"));
+        }
+    }
+    Ok(format::sheet(&problem))
+}
+
+/// `cost VARIABLE COST`, the variables in order without a gap.
+fn cost(words: &mut Words, before: usize) -> Result<u32, Fault> {
+    let variable = words.number("the variable", u64::from(u16::MAX))?;
+    if variable != before as u64 + 1 {
+        return Err(words.fault(format!("the cost of variable {} is due", before + 1)));
+    }
+    let cost = words.number("the cost", u64::from(u32::MAX))?;
+    words.end()?;
+    Ok(cost as u32)
+}
+
+fn clause(words: &mut Words) -> Result<Vec<Literal>, Fault> {
+    let mut literals = Vec::new();
+    while words.peek().is_some() {
+        literals.push(words.literal()?);
+    }
+    Ok(literals)
+}

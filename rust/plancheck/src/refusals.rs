@@ -1,0 +1,71 @@
+//! The answers in plain words. The numbers and their meaning are those of docs/FORMATS.md.
+
+use crate::text::amount;
+use proved::{Answer, NONE};
+
+/// What kind of thing a refusal's place is.
+#[derive(Clone, Copy, Debug, PartialEq, Eq)]
+pub enum Place {
+    File,
+    Clause,
+    Step,
+}
+
+pub fn place_of(number: u64) -> Place {
+    match number {
+        3 | 4 | 10 => Place::Clause,
+        7..=9 | 12..=19 => Place::Step,
+        _ => Place::File,
+    }
+}
+
+/// One sentence for the answer.
+pub fn sentence(answer: &Answer) -> String {
+    let place = answer.place;
+    match (answer.number, answer.cost) {
+        (0, NONE) => "Accepted: no assignment satisfies every clause.".to_string(),
+        (0, cost) => format!(
+            "Accepted: the record's assignment satisfies every clause and costs {}, and no assignment that satisfies every clause costs less.",
+            amount(cost)
+        ),
+        (1..=7, _) => about_layout(answer.number, place),
+        (8..=11, _) => about_claim(answer.number, place),
+        (12..=19, _) => about_step(answer.number, place),
+        (number, _) => format!("The number {number} is not one of the 19 refusals."),
+    }
+}
+
+fn about_layout(number: u64, place: u64) -> String {
+    match number {
+        1 => "Oversize: one of the files is longer than 4294967295 bytes.".to_string(),
+        2 => "Sheet head: the sheet does not begin with 1 to 1024 variables and 0 to 4096 clauses, or it ends before their costs and pairs do.".to_string(),
+        3 if place == 0 => "Sheet pairs: the sheet has no clauses, but goes on after the costs.".to_string(),
+        3 => format!("Sheet pairs: the pair of clause {place} does not fit: bodies stand one behind the other, from the end of the table to the end of the file."),
+        4 => format!("Rule form: clause {place} is no list of literals: each takes two bytes, of variables that the sheet has, rising."),
+        5 => "Record head: the record ends before its assignment and its pairs do, or it has no steps.".to_string(),
+        6 => "Stray bit: the assignment has a bit set that belongs to no variable, or any bit at all under the claim none.".to_string(),
+        _ => format!("Record pairs: the pair of step {place} does not fit: bodies stand one behind the other, from the end of the table to the end of the file."),
+    }
+}
+
+fn about_claim(number: u64, place: u64) -> String {
+    match number {
+        8 => format!("Step form: the bytes of step {place} are no step: its kind, its zero byte, its literals or its length are wrong."),
+        9 => format!("Citation: step {place} cites a clause that the sheet does not have, clauses that do not rise, or a step that is not earlier."),
+        10 => format!("Broken rule: the assignment makes no literal of clause {place} true."),
+        _ => "Claimed cost: the claim is not what the assignment costs.".to_string(),
+    }
+}
+
+fn about_step(number: u64, place: u64) -> String {
+    match number {
+        12 => format!("Copy: step {place} says that it copies a clause, but has other literals than the clause, or a bound that is not none."),
+        13 => format!("Cost bound: the bound of step {place} is not the sum of the costs of its negative literals' variables."),
+        14 => format!("Dependence: the clauses that step {place} cites are not independent once its literals are made false."),
+        15 => format!("Independent bound: the bound of step {place} is not the settled costs plus the least cost of each cited clause."),
+        16 => format!("Pivot: the first step that step {place} cites lacks the pivot as a positive literal, or the second lacks it as a negative one."),
+        17 => format!("Resolvent: the literals of step {place} are not those that are left of the two cited steps, or a variable stands there both ways."),
+        18 => format!("Lesser bound: the bound of step {place} is not the lesser of the two bounds that it cites."),
+        _ => format!("Close: step {place} is the last and has to have no literals and a bound that is not below the claim."),
+    }
+}

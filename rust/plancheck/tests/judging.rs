@@ -1,0 +1,109 @@
+//! `judge`, `explain` and `stats`: the examples through the program, and explanations of every refusal that is met.
+
+mod common;
+
+use common::{code, complained, examples, printed, Folder};
+use plancheck::explain::explain;
+use plancheck::refusals::{place_of, sentence, Place};
+use samples::stream;
+use std::collections::{BTreeMap, BTreeSet};
+
+#[test]
+fn examples_give_their_lines_and_exit_codes() {
+    let folder = Folder::new("examples");
+    for (place, _, _, line) in examples() {
+        let files = ["sheet", "record"].map(|name| place.join(name).display().to_string());
+        let wanted = i32::from(line.starts_with("refused"));
+        let judged = folder.run(&["judge", &files[0], &files[1]]);
+        assert_eq!((printed(&judged), code(&judged)), (line.clone(), wanted));
+        let explained = folder.run(&["explain", &files[0], &files[1]]);
+        assert!(printed(&explained).starts_with(&line));
+        assert_eq!(code(&explained), wanted);
+    }
+}
+
+#[test]
+fn explanations_name_the_place() {
+    let mut met: BTreeMap<u64, usize> = BTreeMap::new();
+    for sample in stream(11).take(20_000) {
+        let answer = proved::judge(&sample.sheet, &sample.record);
+        let lines = explain(&sample.sheet, &sample.record, &answer);
+        assert_eq!(lines[0], answer.line());
+        let start = match place_of(answer.number) {
+            Place::Clause if answer.place > 0 => format!("clause {} (", answer.place),
+            Place::Step => format!("step {} (", answer.place),
+            _ => String::new(),
+        };
+        assert!(lines.len() > 2, "{lines:?}");
+        assert!(lines[2].starts_with(&start), "{lines:?}");
+        *met.entry(answer.number).or_default() += 1;
+    }
+    for number in (0..=19).filter(|number| *number != 1) {
+        assert!(met.contains_key(&number), "{number} was not met: {met:?}");
+    }
+}
+
+#[test]
+fn each_refusal_has_a_sentence_of_its_own() {
+    let sentences = (1..=19).map(|number| {
+        let mut answer = proved::judge(&[], &[]);
+        answer.number = number;
+        answer.place = 7;
+        let sentence = sentence(&answer);
+        assert_eq!(
+            place_of(number) != Place::File,
+            sentence.contains(" 7 ") || sentence.contains(" 7:")
+        );
+        sentence
+    });
+    assert_eq!(sentences.collect::<BTreeSet<_>>().len(), 19);
+}
+
+#[test]
+fn stats_count_the_worked_pair() {
+    let folder = Folder::new("stats");
+    let (_, sheet, record, _) = examples()
+        .into_iter()
+        .find(|(place, ..)| place.ends_with("A1"))
+        .unwrap();
+    folder.write("sheet", &sheet);
+    folder.write("record", &record);
+    let counted = folder.run(&["stats", "sheet", "record"]);
+    let wanted = "least 3 open 1 steps 5\nsheet: 2 variables, 2 clauses, 36 bytes\nrecord: 153 bytes\n\
+        steps: 5 (copy 2, cost 1, independent 0, resolve 2)\nliterals in steps: 6\ndepth of the last step: 3\n\
+        steps that the last one rests on: 4\n";
+    assert_eq!((printed(&counted).as_str(), code(&counted)), (wanted, 0));
+}
+
+#[test]
+fn stats_and_text_answer_to_every_sample() {
+    let folder = Folder::new("any");
+    for sample in stream(12).take(150) {
+        folder.write("sheet", &sample.sheet);
+        folder.write("record", &sample.record);
+        let number = proved::judge(&sample.sheet, &sample.record).number;
+        let wanted = i32::from([2, 3, 4, 5, 7].contains(&number));
+        for command in [&["stats"][..], &["text", "--record"]] {
+            let ran = folder.run(&[command, &["sheet", "record"]].concat());
+            // A stray bit is told before wrong pairs, which these two commands cannot do without.
+            assert!(code(&ran) == wanted || number == 6, "{}", sample.aimed);
+            if code(&ran) == 1 {
+                assert!(complained(&ran).contains(": byte "), "{}", complained(&ran));
+            }
+        }
+    }
+}
+
+/// Files cut anywhere are shown as far as they go.
+#[test]
+fn cut_files_are_explained() {
+    for (_, sheet, record, _) in examples() {
+        let cut_sheets = (0..sheet.len()).map(|end| (&sheet[..end], &record[..]));
+        let cut_records = (0..record.len()).map(|end| (&sheet[..], &record[..end]));
+        for (sheet, record) in cut_sheets.chain(cut_records) {
+            let answer = proved::judge(sheet, record);
+            assert!(!answer.accepts());
+            assert!(explain(sheet, record, &answer).len() > 2);
+        }
+    }
+}

@@ -1,0 +1,103 @@
+//! The proved checker, called from Rust. Every answer here is the static library's: nothing is judged on this side.
+//!
+//! The declarations of the library's functions are not checked against its source, so they are two, and everything else goes
+//! through the safe functions below.
+
+/// The answer to a sheet and a record.
+#[derive(Clone, Copy, Debug, PartialEq, Eq)]
+pub struct Answer {
+    /// 0 for an acceptance, else the refusal's number.
+    pub number: u64,
+    /// The clause or the step that the refusal names, 0 where there is none.
+    pub place: u64,
+    /// The claim of an accepted record, [`NONE`] included.
+    pub cost: u64,
+    /// How many variables the accepted record's assignment makes true.
+    pub open_count: u64,
+    /// How many steps the accepted record has.
+    pub step_count: u64,
+}
+
+/// The claim that no assignment satisfies every clause.
+pub const NONE: u64 = u64::MAX;
+
+impl Answer {
+    /// Whether the record is accepted.
+    pub fn accepts(&self) -> bool {
+        self.number == 0
+    }
+
+    /// The printed line, without its newline.
+    pub fn line(&self) -> String {
+        match (self.number, self.cost) {
+            (0, NONE) => format!("none open 0 steps {}", self.step_count),
+            (0, cost) => format!(
+                "least {cost} open {} steps {}",
+                self.open_count, self.step_count
+            ),
+            (number, _) => format!("refused {number} at {}", self.place),
+        }
+    }
+}
+
+extern "C" {
+    // A slice passes as a pointer and a length, an array as a pointer: see include/plan.h.
+    fn plan_judge(
+        sheet: *const u8,
+        sheet_len: usize,
+        record: *const u8,
+        record_len: usize,
+        answer: *mut u64,
+    );
+    fn plan_show(
+        sheet: *const u8,
+        sheet_len: usize,
+        record: *const u8,
+        record_len: usize,
+        step: u32,
+        part: *mut u64,
+    );
+}
+
+/// The judgement of a record, any bytes.
+pub fn judge(sheet: &[u8], record: &[u8]) -> Answer {
+    let mut numbers = [0u64; 5];
+    // SAFETY: both slices may be read, and the array has the five places that are written.
+    unsafe {
+        plan_judge(
+            sheet.as_ptr(),
+            sheet.len(),
+            record.as_ptr(),
+            record.len(),
+            numbers.as_mut_ptr(),
+        );
+    }
+    let [number, place, cost, open_count, step_count] = numbers;
+    Answer {
+        number,
+        place,
+        cost,
+        open_count,
+        step_count,
+    }
+}
+
+/// The literals of a step, in the file that they stand in; of a refused record, and of a step that is not there, the empty
+/// part at the record's start.
+pub fn show<'a>(sheet: &'a [u8], record: &'a [u8], step: u32) -> &'a [u8] {
+    let mut part = [0u64; 3];
+    // SAFETY: as above, with three places.
+    unsafe {
+        plan_show(
+            sheet.as_ptr(),
+            sheet.len(),
+            record.as_ptr(),
+            record.len(),
+            step,
+            part.as_mut_ptr(),
+        );
+    }
+    let [in_sheet, start, size] = part.map(|n| usize::try_from(n).expect("a place in a file"));
+    let file = if in_sheet == 1 { sheet } else { record };
+    &file[start..start + size]
+}
