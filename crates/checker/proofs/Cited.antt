@@ -2,27 +2,21 @@
 -- Assumes nothing.
 use Prim.Native.Nat.{ℕ, zero, suc, _^_, _≤_, _<_}
 use mathlib.Core.Path.{_≡_}
-use mathlib.Core.Bool.{Bool, true, false, not}
+use mathlib.Core.Bool.{true, not}
 use mathlib.Core.List.{List}
 use native.Mathlib.Omega.{arith}
-use lib.Dec.{eqb}
-use borrow.Author.Tests.{eq-eqb, ne-eqb}
-use Rattle.judgement.specs.declared.Finding.{Finding}
-use Rattle.judgement.specs.declared.Finding.the-variants.{Fine, Fault}
-use Rattle.judgement.specs.Finding.{need, isFine, _then_}
 use Rattle.judgement.specs.Literals.{count, variable}
-use Rattle.judgement.specs.Sheet.{variables, clauses}
-use Rattle.judgement.specs.Step.{bound, literals, cited, citedCount}
-use Rattle.judgement.specs.Kinds.{settled, someUnsettled, dependsOn, dependence, leastUnsettled, independentCost, independentBound}
+use Rattle.judgement.specs.Sheet.{variables, clauses, clausePairsAt}
+use Rattle.judgement.specs.Step.{literals, cited, citedCount}
+use Rattle.judgement.specs.Kinds.{settled, someUnsettled, leastUnsettled}
 use Rattle.judgement.specs.Facts.{Among, Rising, LiteralList, ValidSheet, citedClause}
 use Rattle.judgement.specs.Demands.{IsBytes}
 use Rattle.judgement.proofs.Scan.{not-e, any-some}
-use Rattle.judgement.proofs.Findings.{IsFine, need-true, then-l, then-r, over-each}
 use Rattle.judgement.proofs.Membership.{in-mentions}
 use Rattle.judgement.proofs.Cost.{cost-below}
 use Rattle.judgement.proofs.Entail.{least-unsettled}
-use Rattle.layout.proofs.Loops.{then-more}
-use Rattle.checker.specs.Independent.{Citable, Unsettled, Marked, markOf, SettledMarks}
+use Rattle.checker.specs.Independent.{Citable}
+use Rattle.checker.proofs.Body.{pair-within}
 
 -- ---- what is known of them
 
@@ -59,9 +53,6 @@ module _ (s b : List ℕ) {part : List ℕ} (h : Citable s b) (e : part ≡ lite
   pub literals-list : LiteralList 1024 part
   literals-list = rw e (list-within (variables s) 1024 (h .n) (h .list))
 
-  pub settled-of : {marks : List ℕ} → Marked marks (markOf part) → SettledMarks (literals b) marks
-  settled-of m = record { list = rw e at literals-list; mark = rw e at m }
-
 -- what the tests before this kind's own have shown
 pub citable : (s b : List ℕ) → ValidSheet s → LiteralList (variables s) (literals b)
     → Rising (cited b) (clauses s) (citedCount b) → Citable s b
@@ -70,40 +61,16 @@ citable s b valid list cites =
       n = valid .n .1;
       list = list;
       few = omega (arith, rising-few (cited b) (clauses s) (citedCount b) cites, valid .m);
+      within = λ j w. pair-within s (clausePairsAt s) (clauses s) (valid .room) (valid .pairs) (cited b j) (cites .range j w);
       lists = λ j w. valid .lists (cited b j) (cites .range j w);
     }
 
 -- ---- what they cost
 
--- each clause that passed has an unsettled variable
-pub fine-unsettled : (s b : List ℕ) (k : ℕ) → IsFine (dependence s b k) → Unsettled s b
-unfolding dependence dependsOn
-fine-unsettled s b k p j w =
-    let fine = over-each (λ j. dependsOn s b k j (literals b) (citedClause s b j)) (citedCount b) p j w in
-    search (need-true, then-l, then-r)
-
--- and so costs less than 2 ^ 32
-least-below : (s D C : List ℕ) → IsBytes s → someUnsettled D C ≡ true → leastUnsettled s D C < 2 ^ 32
+-- a clause with an unsettled variable costs less than 2 ^ 32
+pub least-below : (s D C : List ℕ) → IsBytes s → someUnsettled D C ≡ true → leastUnsettled s D C < 2 ^ 32
 unfolding someUnsettled
 least-below s D C bytes h =
     let (i, w, e) = any-some (λ i. not (settled D C i)) (count C) h in
     let l = least-unsettled s D C i w (λ m. not-e (settled D C i) e (in-mentions D (variable C i) m)) in
     omega (arith, l, cost-below s bytes (variable C i))
-
-pub cited-below : (s b : List ℕ) (j : ℕ) {x : ℕ} → IsBytes s → Unsettled s b → Among (citedCount b) j
-    → x ≡ leastUnsettled s (literals b) (citedClause s b j) → x < 2 ^ 32
-cited-below s b j bytes u w e = rw e (least-below s (literals b) (citedClause s b j) bytes (u j w))
-
--- ---- refusal 15 after 14, of which g is the finding: x is the bound, and y what it has to be
-
-module _ (s b : List ℕ) (k : ℕ) {g : Finding} {r : Bool} {x y : ℕ} (d : g ≡ dependence s b k) (i : r ≡ isFine g)
-    (h : not r ≡ false) (ex : x ≡ bound b) (ey : y ≡ independentCost s b) where
-  bound-last : (dependence s b k then independentBound s b k) ≡ need (eqb x y) 15 k
-  unfolding independentBound
-  bound-last = rw (then-more (dependence s b k) (independentBound s b k) d i h, ex, ey)
-
-  pub bound-fault : (x ≡ y → ⊥) → Fault 15 k ≡ (dependence s b k then independentBound s b k)
-  bound-fault n = rw (bound-last, ne-eqb x y n)
-
-  pub bound-fine : x ≡ y → Fine ≡ (dependence s b k then independentBound s b k)
-  bound-fine e = rw (bound-last, eq-eqb x y e)

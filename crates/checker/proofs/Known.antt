@@ -1,6 +1,6 @@
 -- What the tests that passed so far say of the lists that the next one looks at.
 -- Assumes nothing.
-use Prim.Native.Nat.{ℕ, _+_, _-_, _*_, _≤_, _<_}
+use Prim.Native.Nat.{ℕ, _+_, _-_, _*_, _^_, _≤_, _<_}
 use mathlib.Core.Path.{_≡_, refl, sym, _∙_}
 use mathlib.Core.Bool.{Bool, true, false, not}
 use mathlib.Core.List.{List}
@@ -11,13 +11,13 @@ use Rattle.judgement.specs.declared.Finding.the-variants.{Fine, Fault}
 use Rattle.judgement.specs.declared.Part.{Part}
 use Rattle.judgement.specs.Finding.{isFine, _then_}
 use Rattle.judgement.specs.Number.{numberAt}
-use Rattle.judgement.specs.Pairs.{pairOffset, pairLength}
+use Rattle.judgement.specs.Pairs.{pairOffset, pairLength, body}
 use Rattle.judgement.specs.Sheet.{variables, clauses, clausePairsAt}
 use Rattle.judgement.specs.Record.{claim, steps, stepPairsAt, step}
 use Rattle.judgement.specs.Step.{Kind, kindOf, copy, costs, independent, resolution, unknown, literalCount, bound, literals, cited, citedCount, stepForm, citesFine, citation}
 use Rattle.judgement.specs.Kinds.{copyFinding, costBound, dependence, independentBound, resolutionFinding, kindFinding}
 use Rattle.judgement.specs.Judgement.{stepFinding, close, literalsPart, stepPart}
-use Rattle.judgement.specs.Facts.{Rising, LiteralList}
+use Rattle.judgement.specs.Facts.{Among, Rising, RecordLayout, StepLayout}
 use Rattle.judgement.proofs.Scan.{and-l, and-r}
 use Rattle.judgement.proofs.Findings.{need-true, over-each}
 use Rattle.judgement.proofs.Lists.{rises-rising}
@@ -25,18 +25,32 @@ use Rattle.judgement.proofs.FirstByte.{kind-begins, kind-copy, kind-costs, kind
 use Rattle.judgement.proofs.Inferences.{step-layout, step-facts}
 use Rattle.checker.specs.Known.{Known, Formed}
 use Rattle.checker.specs.Independent.{Citable}
-use Rattle.checker.specs.Resolve.{Forms}
-use Rattle.checker.proofs.Cited.{citable}
+use Rattle.checker.specs.Read.{Within}
+use Rattle.checker.specs.Resolve.{InForm, Forms}
+use Rattle.checker.proofs.Body.{pair-within}
+use Rattle.checker.proofs.Cited.{list-within, citable}
 
--- the literals of an earlier step are in form
-pub earlier-list : (s r : List ℕ) (k j : ℕ) → Known s r k → 1 ≤ j → j < k → LiteralList (variables s) (literals (step s r j))
-earlier-list s r k j known some less =
-    step-facts s r j (over-each (stepFinding s r) (k - 1) (known .earlier) j (some, omega (arith, some, less))) .0 .list
+-- ---- where the steps stand
+
+pub step-within : (s r : List ℕ) (k : ℕ) {at : ℕ} → RecordLayout s r → Among (steps r) k → at ≡ stepPairsAt s → Within r at k
+step-within s r k layout w e = rw e (pair-within r (stepPairsAt s) (steps r) (layout .room) (layout .pairs) k w)
+
+pub step-at : (s r : List ℕ) (k : ℕ) {x : List ℕ} {at : ℕ} → at ≡ stepPairsAt s → x ≡ body r at k → x ≡ step s r k
+step-at s r k e x-is = rw (← e) x-is
+
+-- the pairs of the steps fit into a file of less than 2 ^ 32 bytes
+pub few-steps : (s r : List ℕ) (k : ℕ) → Known s r k → k < 2 ^ 29
+few-steps s r k known = omega (arith, known .layout .size, known .layout .room, known .among .1)
+
+-- ---- an earlier step, and the step itself
+
+pub earlier-layout : (s r : List ℕ) (k j : ℕ) → Known s r k → 1 ≤ j → j < k → StepLayout s (step s r j)
+earlier-layout s r k j known some less =
+    step-facts s r j (over-each (stepFinding s r) (k - 1) (known .earlier) j (some, omega (arith, some, less))) .0
 
 module _ (s r b : List ℕ) (k : ℕ) (formed : Formed s r b k) where
-  -- and so are those of the step itself
-  pub own-list : LiteralList (variables s) (literals b)
-  own-list = step-layout s b k (formed .form) .list
+  own-layout : StepLayout s b
+  own-layout = step-layout s b k (formed .form)
 
   may-cite : citesFine (kindOf b) s k b ≡ true
   unfolding citation
@@ -58,11 +72,17 @@ module _ (s r b : List ℕ) (k : ℕ) (formed : Formed s r b k) where
         ltb-true (cited b 2) k (search (h, and-l, and-r) depth 8),
       )
 
-  -- the literal lists of a resolution's premises
-  pub premise-lists : kindOf b ≡ resolution → LiteralList (variables s) (literals (step s r (cited b 1))) × LiteralList (variables s) (literals (step s r (cited b 2)))
-  premise-lists e =
-      let (x, below-x, y, below-y) = cited-steps e in
-      (earlier-list s r k (cited b 1) (formed .known) x below-x, earlier-list s r k (cited b 2) (formed .known) y below-y)
+  -- they are steps of the record
+  cited-within : (j : ℕ) {at i : ℕ} → 1 ≤ cited b j → cited b j < k → at ≡ stepPairsAt s → i ≡ cited b j → Within r at i
+  cited-within j some less at-is i-is =
+      rw i-is (step-within s r (cited b j) (formed .known .layout) (some, omega (arith, less, formed .known .among .1)) at-is)
+
+  module _ (byte : numberAt b 0 1 ≡ 4) {at i : ℕ} (at-is : at ≡ stepPairsAt s) where
+    pub first-within : i ≡ cited b 1 → Within r at i
+    first-within i-is = let (x, below-x, y, below-y) = cited-steps (kind-resolution b byte) in cited-within 1 x below-x at-is i-is
+
+    pub second-within : i ≡ cited b 2 → Within r at i
+    second-within i-is = let (x, below-x, y, below-y) = cited-steps (kind-resolution b byte) in cited-within 2 y below-y at-is i-is
 
 -- ---- the kind of a step with body b
 
@@ -97,15 +117,19 @@ module _ (s r b : List ℕ) (k : ℕ) (is-body : b ≡ step s r k) where
 
 module _ (s r b : List ℕ) (k : ℕ) (formed : Formed s r b k) where
   pub citable-step : numberAt b 0 1 ≡ 3 → Citable s b
-  citable-step e = citable s b (formed .known .sheet) (own-list s r b k formed) (cited-clauses s r b k formed (kind-independent b e))
+  citable-step e = citable s b (formed .known .sheet) (own-layout s r b k formed .list) (cited-clauses s r b k formed (kind-independent b e))
+
+  -- the sheet has 1,024 variables at most
+  in-form : {c : List ℕ} → StepLayout s c → InForm c
+  in-form l = record { room = l .room; list = list-within (variables s) 1024 (formed .known .sheet .n .1) (l .list) }
 
   pub forms : numberAt b 0 1 ≡ 4 → {x y : List ℕ} {i j : ℕ} → i ≡ cited b 1 → x ≡ step s r i → j ≡ cited b 2 → y ≡ step s r j → Forms x y b
   forms e i-is x-is j-is y-is =
-      let (first, second) = premise-lists s r b k formed (kind-resolution b e) in
+      let (first, below-first, second, below-second) = cited-steps s r b k formed (kind-resolution b e) in
       record {
-        of-x = (variables s, rw (x-is, i-is) first);
-        of-y = (variables s, rw (y-is, j-is) second);
-        of-b = (variables s, own-list s r b k formed);
+        of-x = rw (x-is, i-is) (in-form (earlier-layout s r k (cited b 1) (formed .known) first below-first));
+        of-y = rw (y-is, j-is) (in-form (earlier-layout s r k (cited b 2) (formed .known) second below-second));
+        of-b = in-form (own-layout s r b k formed);
       }
 
 -- a finding that the code found fine

@@ -1,7 +1,7 @@
 pub mod Body
-pub mod Marks
+pub mod Marking
 pub mod Cited
-pub mod Walk
+pub mod Conditions
 pub mod Resolution
 pub mod Known
 pub mod Judged

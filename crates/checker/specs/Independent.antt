@@ -1,48 +1,30 @@
--- Kind 3: what is known of a step and of the clauses that it cites before they are judged, and what the marks of its
--- variables say.
+-- Kind 3: what is known of a step and of the clauses that it cites before they are judged, and the conditions on a clause,
+-- literal by literal.
 -- Assumes nothing.
-use Prim.Native.Nat.{ℕ, _-_, _≤_}
-use mathlib.Core.Path.{_≡_}
-use mathlib.Core.Bool.{true, cond}
+use Prim.Native.Nat.{ℕ, _≤_}
+use mathlib.Core.Bool.{Bool, not, _&&_, _||_}
 use mathlib.Core.List.{List}
-use lib.ListN.{getD}
-use Rattle.judgement.specs.Meaning.{positive, negative}
-use Rattle.judgement.specs.Literals.{holds}
-use Rattle.judgement.specs.Sheet.{variables}
-use Rattle.judgement.specs.Step.{literals, citedCount}
-use Rattle.judgement.specs.Kinds.{usedBefore, someUnsettled}
+use Rattle.judgement.specs.Scan.{allOf}
+use Rattle.judgement.specs.Meaning.{variableOf, isPositive, opposite}
+use Rattle.judgement.specs.Literals.{count, code, holds}
+use Rattle.judgement.specs.Sheet.{variables, clausePairsAt}
+use Rattle.judgement.specs.Step.{literals, cited, citedCount}
+use Rattle.judgement.specs.Kinds.{someUnsettled}
 use Rattle.judgement.specs.Facts.{Among, LiteralList, citedClause}
+use Rattle.checker.specs.Read.{Within}
 
--- the literals of the step with body b, and the clauses that it cites, are in form
+-- the literals of the step with body b, and the clauses that it cites, are in form, and the clauses stand in the sheet
 pub record Citable (s b : List ℕ) : Type 0 where
   pub n : variables s ≤ 1024
   pub list : LiteralList (variables s) (literals b)
   pub few : citedCount b ≤ 4096
+  pub within : (j : ℕ) → Among (citedCount b) j → Within s (clausePairsAt s) (cited b j)
   pub lists : (j : ℕ) → Among (citedCount b) j → LiteralList (variables s) (citedClause s b j)
 
--- each clause that b cites has an unsettled variable
-abbrev pub Unsettled : List ℕ → List ℕ → Type 0
-Unsettled s b = (j : ℕ) → Among (citedCount b) j → someUnsettled (literals b) (citedClause s b j) ≡ true
+-- falsifying D makes the literal c false, or c is positive and unsettled, and its variable is not used
+unfoldable pub fits : List ℕ → (ℕ → Bool) → ℕ → Bool
+fits D used c = holds D c || isPositive c && not (holds D (opposite c)) && not (used (variableOf c))
 
--- ---- marks: that of variable v stands at v - 1
-
-abbrev pub markAt : List ℕ → ℕ → ℕ
-markAt marks v = getD marks (v - 1) 0
-
--- the marks of variables 1 to 1,024 are those of f
-abbrev pub Marked : List ℕ → (ℕ → ℕ) → Type 0
-Marked marks f = (v : ℕ) → Among 1024 v → markAt marks v ≡ f v
-
--- falsifying D makes v false, 1, where v stands in D, makes it true, 2, where its negation does, and else leaves it
--- unsettled, 0
-unfoldable pub markOf : List ℕ → ℕ → ℕ
-markOf D v = cond (holds D (positive v)) 1 (cond (holds D (negative v)) 2 0)
-
--- these are the marks of the variables that D settles
-pub record SettledMarks (D marks : List ℕ) : Type 0 where
-  pub list : LiteralList 1024 D
-  pub mark : Marked marks (markOf D)
-
--- these marks are 1 of the variables of the clauses that b cites before the j-th, and 0 of the others
-abbrev pub UsedMarks : List ℕ → List ℕ → ℕ → List ℕ → Type 0
-UsedMarks s b j marks = Marked marks (λ v. cond (usedBefore s b j v) 1 0)
+-- every literal of C fits, and one is unsettled
+unfoldable pub isIndependent : List ℕ → (ℕ → Bool) → List ℕ → Bool
+isIndependent D used C = allOf (λ i. fits D used (code C i)) (count C) && someUnsettled D C

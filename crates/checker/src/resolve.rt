@@ -1,159 +1,107 @@
-// Kind 4: the cost resolvent of two steps, by walks that are linear in the three literal lists.
+// Kind 4: the cost resolvent of two steps, by marks. Literals of the step have the mark t, those of the premises then t + 1.
 use crate::cost;
-use crate::read;
+use crate::marks;
 use crate::step;
 use judgement::Finding;
 ghost use mathlib.Core.Path.{_≡_};
-ghost use mathlib.Core.Bool.{_&&_, _||_, not};
-ghost use Prim.Native.Nat.{_+_, _*_, _^_, _<_, min};
-ghost use lib.Dec.{eqb};
+ghost use mathlib.Core.Bool.{true, cond, _&&_, _||_};
+ghost use Prim.Native.Nat.{_+_, _*_, _^_, _≤_, _<_};
+ghost use lib.Dec.{eqb, leb};
+ghost use lib.ListN.{length};
+ghost use Rattle.judgement.specs.Scan.{allOf};
 ghost use Rattle.judgement.specs.Meaning.{positive, negative};
-ghost use Rattle.judgement.specs.Literals.{holds};
+ghost use Rattle.judgement.specs.Literals.{count, code, holds};
 ghost use Rattle.judgement.specs.Step.{bound};
-ghost use Rattle.judgement.specs.Kinds.{coveredBut, isResolvent, lesserBound, resolutionFinding};
-ghost use Rattle.checker.specs.Resolve.{InForm, Forms, Below, allResolved};
+ghost use Rattle.judgement.specs.Kinds.{isResolvent, lesserBound, resolutionFinding};
+ghost use Rattle.judgement.specs.Facts.{LiteralList};
+ghost use Rattle.checker.specs.Marks.{markAt, Marked, withMarks, Stale};
+ghost use Rattle.checker.specs.Resolve.{Forms};
 
-// Whether a list holds a literal, and how many of the list's first literals are below it.
-struct Place {
-    held: bool,
-    at: usize,
+// Of a premise: whether each of its literals but the pivot's is marked, and whether it has the pivot's.
+struct Premise {
+    covered: bool,
+    pivot: bool,
 }
 
-// Looks for c, on from a place before which every literal is below c.
-fn seek(part: &[u8], from: usize, c: usize) -> Place
-    requires { ⌜ InForm (now part) × Below (now part) from c ⌝ }
-    ensures { λ r. ⌜ (r .held ≡ holds (now (part .entry)) c) × Below (now (part .entry)) (r .at) c ⌝ }
+// Looks for the literals of a premise among those with a mark from t on, and marks them. The literal `out` may be there
+// too, and is not marked in the end.
+fn check_premise(marks: &mut [u32; 2050], part: &[u8], out: usize, t: u32) -> Premise
+    requires { ⌜ (length (now marks) ≡ 2050) × LiteralList 1024 (now part) × (out < 2050) × (t + 1 < 2 ^ 32) ⌝ }
+    ensures size { λ _. ⌜ length (now (marks .exit)) ≡ 2050 ⌝ }
+    ensures covered { λ r. ⌜ r .covered ≡ allOf (λ i. eqb (code (now (part .entry)) i) out || leb t (markAt (now (marks .entry)) (code (now (part .entry)) i))) (count (now (part .entry))) ⌝ }
+    ensures pivot { λ r. ⌜ r .pivot ≡ holds (now (part .entry)) out ⌝ }
+    ensures each { λ _. ⌜ Marked (now (marks .exit)) (λ c. cond (eqb out c) 0 (withMarks (now (part .entry)) (t + 1) (now (marks .entry)) c)) ⌝ }
 {
-    let q = part.len() / 2;
-    let mut i = from;
-    while i < q {
-        let d = read::code_at(part, i);
-        if c <= d {
-            return Place {
-                held: d == c,
-                at: i,
-            };
-        }
-        i += 1;
+    marks[out] = t;
+    let covered = marks::check_off(marks, part, t);
+    let pivot = marks[out] != t;
+    marks[out] = 0;
+    Premise {
+        covered: covered,
+        pivot: pivot,
     }
-    Place { held: false, at: i }
 }
 
-fn either(x: bool, y: bool) -> bool
-    ensures { λ r. ⌜ r ≡ x || y ⌝ }
-{
-    if x {
-        return true;
-    }
-    y
+// Whether p is in a and not p in b, and if so, whether d is the resolvent.
+struct Resolution {
+    pivot: bool,
+    resolvent: bool,
 }
 
-// A literal that is held, and is another than `out`.
-fn is_kept(held: bool, c: usize, out: usize) -> bool
-    ensures { λ r. ⌜ r ≡ held && not (eqb c out) ⌝ }
+// A list in form has no variable both ways, so that is not tested.
+fn resolve(marks: &mut [u32; 2050], a: &[u8], b: &[u8], p: usize, d: &[u8], t: u32) -> Resolution
+    requires { ⌜ Stale 2050 (now marks) t × LiteralList 1024 (now a) × LiteralList 1024 (now b) × LiteralList 1024 (now d) × (p ≤ 1024) × (t + 1 < 2 ^ 32) ⌝ }
+    ensures stale { λ _. ⌜ Stale 2050 (now (marks .exit)) (t + 2) ⌝ }
+    ensures pivot { λ r. ⌜ r .pivot ≡ holds (now (a .entry)) (positive p) && holds (now (b .entry)) (negative p) ⌝ }
+    ensures resolvent { λ r. ⌜ (r .pivot ≡ true → r .resolvent ≡ isResolvent (now (a .entry)) (now (b .entry)) p (now (d .entry))) ⌝ }
 {
-    if held {
-        return c != out;
+    marks::mark(marks, d, t);
+    let x = check_premise(marks, a, 2 * p, t);
+    let y = check_premise(marks, b, 2 * p + 1, t);
+    let found = marks::is_marked(marks, d, t + 1);
+    let covered = marks::both(x.covered, y.covered);
+    Resolution {
+        pivot: marks::both(x.pivot, y.pivot),
+        resolvent: marks::both(covered, found),
     }
-    false
-}
-
-// Each literal of a but `out` is in d.
-fn is_covered(a: &[u8], out: usize, d: &[u8]) -> bool
-    requires { ⌜ InForm (now a) × InForm (now d) ⌝ }
-    ensures { λ r. ⌜ r ≡ coveredBut (now (a .entry)) out (now (d .entry)) ⌝ }
-{
-    let q = a.len() / 2;
-    let mut j = 0;
-    let mut i = 0;
-    while i < q {
-        let c = read::code_at(a, i);
-        let f = seek(d, j, c);
-        if !either(c == out, f.held) {
-            return false;
-        }
-        j = f.at;
-        i += 1;
-    }
-    true
-}
-
-// Each literal of d is one of a but p, or of b but not p.
-fn all_resolved(a: &[u8], b: &[u8], p: usize, d: &[u8]) -> bool
-    requires { ⌜ InForm (now a) × InForm (now b) × InForm (now d) × (p < 2 ^ 16) ⌝ }
-    ensures { λ r. ⌜ r ≡ allResolved (now (a .entry)) (now (b .entry)) p (now (d .entry)) ⌝ }
-{
-    let t = 2 * p;
-    let q = d.len() / 2;
-    let mut j = 0;
-    let mut k = 0;
-    let mut i = 0;
-    while i < q {
-        let c = read::code_at(d, i);
-        let f = seek(a, j, c);
-        let g = seek(b, k, c);
-        if !either(is_kept(f.held, c, t), is_kept(g.held, c, t + 1)) {
-            return false;
-        }
-        j = f.at;
-        k = g.at;
-        i += 1;
-    }
-    true
-}
-
-// d is the resolvent of a and b. A list in form has no variable both ways, so that is not tested.
-fn is_resolvent(a: &[u8], b: &[u8], p: usize, d: &[u8]) -> bool
-    requires { ⌜ InForm (now a) × InForm (now b) × InForm (now d) × (p < 2 ^ 16) ⌝ }
-    ensures { λ r. ⌜ r ≡ isResolvent (now (a .entry)) (now (b .entry)) p (now (d .entry)) ⌝ }
-{
-    let t = 2 * p;
-    if !is_covered(a, t, d) {
-        return false;
-    }
-    if !is_covered(b, t + 1, d) {
-        return false;
-    }
-    all_resolved(a, b, p, d)
-}
-
-// p is in a, and not p in b.
-fn has_pivot(a: &[u8], b: &[u8], p: usize) -> bool
-    requires { ⌜ InForm (now a) × InForm (now b) × (p < 2 ^ 16) ⌝ }
-    ensures { λ r. ⌜ r ≡ holds (now (a .entry)) (positive p) && holds (now (b .entry)) (negative p) ⌝ }
-{
-    let t = 2 * p;
-    let f = seek(a, 0, t);
-    if !f.held {
-        return false;
-    }
-    let g = seek(b, 0, t + 1);
-    g.held
 }
 
 // 18: the bound of b is not the lesser of those of x and y.
 fn bound_finding(x: &[u8], y: &[u8], b: &[u8], k: u32) -> Finding
+    requires { ⌜ Forms (now x) (now y) (now b) ⌝ }
     ensures { λ r. ⌜ r ≡ lesserBound (bound (now (x .entry))) (bound (now (y .entry))) (bound (now (b .entry))) k ⌝ }
 {
-    if step::bound_of(b) != cost::lesser(step::bound_of(x), step::bound_of(y)) {
+    if step::whole_bound(b) != cost::lesser(step::whole_bound(x), step::whole_bound(y)) {
         return Finding::Fault(18, k);
     }
     Finding::Fine
 }
 
-// Refusals 16, 17 and 18 of step k, which has the body b and resolves the steps with the bodies x and y.
-pub(crate) fn resolution_finding(x: &[u8], y: &[u8], b: &[u8], k: u32) -> Finding
-    requires { ⌜ Forms (now x) (now y) (now b) ⌝ }
-    ensures { λ r. ⌜ r ≡ resolutionFinding (now (x .entry)) (now (y .entry)) (now (b .entry)) k ⌝ }
+// Refusals 16, 17 and 18 of step k, which has the body b and resolves the steps with the bodies x and y. No list in form
+// holds a pivot above 1,024.
+pub(crate) fn resolution_finding(
+    marks: &mut [u32; 2050],
+    x: &[u8],
+    y: &[u8],
+    b: &[u8],
+    k: u32,
+) -> Finding
+    requires { ⌜ Forms (now x) (now y) (now b) × Stale 2050 (now marks) (2 * k) × (k < 2 ^ 29) ⌝ }
+    ensures finding { λ r. ⌜ r ≡ resolutionFinding (now (x .entry)) (now (y .entry)) (now (b .entry)) k ⌝ }
+    ensures stale { λ _. ⌜ Stale 2050 (now (marks .exit)) (2 * k + 2) ⌝ }
 {
-    let a = step::literals_of(x);
-    let c = step::literals_of(y);
-    let d = step::literals_of(b);
     let p = step::pivot_of(b);
-    if !has_pivot(a, c, p) {
+    if 1024 < p {
         return Finding::Fault(16, k);
     }
-    if !is_resolvent(a, c, p, d) {
+    let a = step::whole_literals(x);
+    let c = step::whole_literals(y);
+    let d = step::whole_literals(b);
+    let r = resolve(marks, a, c, p, d, 2 * k);
+    if !r.pivot {
+        return Finding::Fault(16, k);
+    }
+    if !r.resolvent {
         return Finding::Fault(17, k);
     }
     bound_finding(x, y, b, k)

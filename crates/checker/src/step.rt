@@ -1,6 +1,8 @@
-// The parts of a step's body b. A byte past the end reads as 0, and a part is cut at the end.
+// The parts of a step's body b. A byte past the end reads as 0, and a part is cut at the end, but in the last two functions.
+use crate::read;
 ghost use mathlib.Core.Path.{_≡_};
-ghost use Prim.Native.Nat.{_+_, _*_, _^_, _<_};
+ghost use Prim.Native.Nat.{_+_, _*_, _^_, _≤_, _<_};
+ghost use lib.ListN.{length};
 ghost use Rattle.judgement.specs.Number.{numberAt};
 ghost use Rattle.judgement.specs.Step.{literalCount, bound, literals, tail, cited, citedCount, pivotOf};
 
@@ -57,4 +59,20 @@ pub(crate) fn pivot_of(b: &[u8]) -> usize
     ensures { λ r. ⌜ (r ≡ pivotOf (now (b .entry))) × (r < 2 ^ 16) ⌝ }
 {
     layout::read_u16(tail_of(b), 8)
+}
+
+// The bound and the literals of a body that is known to have them.
+pub(crate) fn whole_bound(b: &[u8]) -> u64
+    requires { ⌜ 12 ≤ length (now b) ⌝ }
+    ensures { λ r. ⌜ r ≡ bound (now (b .entry)) ⌝ }
+{
+    read::u64_at(b, 4)
+}
+
+pub(crate) fn whole_literals(b: &[u8]) -> &[u8]
+    requires { ⌜ 12 + 2 * literalCount (now b) ≤ length (now b) ⌝ }
+    ensures { λ r. ⌜ now r ≡ literals (now (b .entry)) ⌝ }
+{
+    let end = 12 + 2 * read::u16_at(b, 2);
+    &b[12..end]
 }

@@ -11,7 +11,7 @@ use Rattle.judgement.specs.Scan.{leastOf}
 use Rattle.judgement.specs.Meaning.{none}
 use Rattle.judgement.specs.Literals.{count, variable}
 use Rattle.judgement.specs.Sheet.{costOf}
-use Rattle.judgement.specs.Kinds.{settled, leastUnsettled}
+use Rattle.judgement.specs.Kinds.{settled, unsettledCost, leastUnsettled}
 use Rattle.judgement.specs.Facts.{Among, Mentions, LeastCost}
 use Rattle.judgement.specs.Demands.{IsBytes}
 use Rattle.judgement.proofs.Scan.{which, clash}
@@ -32,22 +32,19 @@ least-is top f (suc n) = go (least-is top f n) (decLt (f (suc n)) (leastOf top f
     go (inr (k, w, e)) (no h) = inr (k, (w .0, omega (arith, w .1)), omega (arith, e, h))
 
 module _ (s D C : List ℕ) where
-  value : ℕ → ℕ
-  value i = cond (settled D C i) none (costOf s (variable C i))
-
   unsettled-below : (v : ℕ) → Mentions C v → (Mentions D v → ⊥) → leastUnsettled s D C ≤ costOf s v
   unsettled-below v (i, w, e) out = rw e at (least-unsettled s D C i w (λ m. out (rw e at m)))
 
   -- costs lie below "none", so the least is not the top
   reached : IsBytes s → (v : ℕ) → Mentions C v → (Mentions D v → ⊥)
       → (v : ℕ) × Mentions C v × (Mentions D v → ⊥) × (costOf s v ≡ leastUnsettled s D C)
-  unfolding leastUnsettled value none
-  reached bytes v m out = go (least-is none value (count C))
+  unfolding leastUnsettled unsettledCost none
+  reached bytes v m out = go (least-is none (unsettledCost s D C) (count C))
     where
       below : leastUnsettled s D C ≤ costOf s v
       below = unsettled-below v m out
 
-      at : (k : ℕ) → Among (count C) k → value k ≡ leastUnsettled s D C
+      at : (k : ℕ) → Among (count C) k → unsettledCost s D C k ≡ leastUnsettled s D C
           → (v : ℕ) × Mentions C v × (Mentions D v → ⊥) × (costOf s v ≡ leastUnsettled s D C)
       at k w e = found (which (settled D C k))
         where
@@ -56,7 +53,8 @@ module _ (s D C : List ℕ) where
           found (inl q) = absurd (omega (arith, cost-below s bytes v, below, rw q at e))
           found (inr q) = (variable C k, (k, w, refl), λ i. clash (in-mentions D (variable C k) i) q, rw q at e)
 
-      go : (leastOf none value (count C) ≡ none) ⊎ ((k : ℕ) × Among (count C) k × (value k ≡ leastOf none value (count C)))
+      go : (leastOf none (unsettledCost s D C) (count C) ≡ none)
+          ⊎ ((k : ℕ) × Among (count C) k × (unsettledCost s D C k ≡ leastOf none (unsettledCost s D C) (count C)))
           → (v : ℕ) × Mentions C v × (Mentions D v → ⊥) × (costOf s v ≡ leastUnsettled s D C)
       go (inl e) = absurd (omega (arith, cost-below s bytes v, below, e))
       go (inr (k, w, e)) = at k w e

@@ -2,7 +2,7 @@
 -- Assumes nothing.
 use native.Mathlib.Omega.{arith}
 use borrow.Author.Needs.{needs}
-use Rattle.checker.proofs.Marks.{code-form}
+use Rattle.checker.proofs.Conditions.{variable-form}
 use Rattle.checker.proofs.independent.code_at.Statement.{statement}
 use Rattle.checker.proofs.independent.code_at.Tie as tie
 
@@ -12,7 +12,7 @@ code-at-requires c κs = search needs
 returns : tie.Need-returns
 returns c =
     let a = c .before .before in
-    code-form (a .args .part .now) (a .args .i) (a .pre .1) (omega arith) (c .code-at .ensures .0)
+    variable-form (a .args .part .now) (a .args .i) (a .pre .1) (omega arith) (c .code-at .ensures .0)
 
 pub code-at-spec : {M : Type 1} → statement M
 code-at-spec = tie.close (tie.spec code-at-requires returns)

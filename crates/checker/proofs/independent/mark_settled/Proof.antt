@@ -1,38 +1,44 @@
--- `checker::independent::mark_settled` meets its contract. The invariant: the marks are those that i literals give. The
--- measure is the number of literals left.
+-- `checker::independent::mark_settled` meets its contract. The invariant: the variables of i literals are marked, and the other
+-- marks are what they were. The measure is the number of literals left.
 -- Assumes nothing.
 use Prim.Native.Nat.{_-_, _≤_}
 use mathlib.Core.Path.{_≡_, refl}
 use native.Mathlib.Omega.{arith}
-use lib.ListN.{length, getD-replicate, length-set}
+use lib.ListN.{length, length-set}
 use Rattle.judgement.specs.Scan.{anyOf}
-use Rattle.judgement.specs.Literals.{count, holds}
-use Rattle.checker.specs.Independent.{Marked, markOf}
-use Rattle.checker.proofs.Marks.{markTo, settled-more}
+use Rattle.judgement.specs.Literals.{count}
+use Rattle.checker.specs.Marks.{Marked}
+use Rattle.checker.proofs.Conditions.{settledTo, settled-more, marks-start}
 use Rattle.checker.proofs.independent.mark_settled.Statement.{statement}
 use Rattle.checker.proofs.independent.mark_settled.Tie as tie
 
 abbrev Inv-loop : tie.InvT-loop
-Inv-loop part marks₀ q i₀ marks i = (i ≤ q) × (length marks ≡ 1024) × Marked marks (markTo part i)
+Inv-loop marks₀ part t q i₀ marks i = (i ≤ q) × (length marks ≡ 1024) × Marked marks (settledTo part t marks₀ i)
 
 abbrev μ-loop : tie.MeasureT-loop
-μ-loop part marks₀ q i₀ marks i = q - i
+μ-loop marks₀ part t q i₀ marks i = q - i
 
 loop-holds : tie.Need-loop-holds Inv-loop μ-loop
 unfolding anyOf
-loop-holds c = (omega arith, refl, λ v w. getD-replicate 1024 (v - 1) 0 0 (omega arith))
+loop-holds c = (omega arith, c .before .pre .0 .size, λ d. refl)
 
 code-at-requires : tie.Need-code-at-requires Inv-loop μ-loop
-code-at-requires c κs = (omega arith, c .before .before .before .pre)
+code-at-requires c κs = (omega arith, c .before .before .before .pre .1)
 
-falsified-requires : tie.Need-falsified-requires Inv-loop μ-loop
-falsified-requires c κs = tt
+cast-marks : tie.Need-cast-marks Inv-loop μ-loop
+cast-marks c = omega arith
+
+add-marks : tie.Need-add-marks Inv-loop μ-loop
+add-marks c = omega arith
 
 sub-marks : tie.Need-sub-marks Inv-loop μ-loop
 sub-marks c = omega arith
 
-array-write-marks : tie.Need-array-write-marks Inv-loop μ-loop
-array-write-marks c = omega arith
+mul-marks : tie.Need-mul-marks Inv-loop μ-loop
+mul-marks c = omega arith
+
+element-write-marks : tie.Need-element-write-marks Inv-loop μ-loop
+element-write-marks c = omega arith
 
 add-i : tie.Need-add-i Inv-loop μ-loop
 add-i c = omega arith
@@ -42,20 +48,22 @@ loop-less c = omega arith
 
 loop-again : tie.Need-loop-again Inv-loop μ-loop
 loop-again c =
-    let l = c .before .before .before .loop in
-    let a = c .before .before .before .before .before in
-    let e = c .before .code-at .ensures in (
+    let l = c .before .before .loop in
+    let a = c .before .before .before .before in
+    let part = a .args .part .now in
+    let e = c .code-at .ensures in (
       omega arith,
       simp length-set (l .inv .1),
-      settled-more _ (l .i) (a .pre) (omega arith) (e .0) (l .marks) (c .falsified .ensures) (l .inv .1) (e .1) (l .inv .2),
+      settled-more part (l .i) (a .pre .1) (omega arith) (e .0) (a .args .t) (a .args .marks .now) (l .marks) (l .inv .1) (e .1) (l .inv .2),
     )
 
 returns : tie.Need-returns Inv-loop μ-loop
-unfolding markOf holds
 returns c =
     let l = c .before .loop in
-    let e : l .i ≡ count (c .before .before .before .args .part .now) = omega arith in
-    rw e at (l .inv .2)
+    let a = c .before .before .before in
+    let part = a .args .part .now in
+    let end : l .i ≡ count part = omega arith in
+    marks-start part (a .args .t) (a .args .marks .now) (l .marks) (a .pre .1) (a .pre .0) (l .inv .1) (rw end at (l .inv .2))
 
 pub mark-settled-spec : {M : Type 1} → statement M
 mark-settled-spec =
@@ -65,9 +73,11 @@ mark-settled-spec =
     μ-loop
     loop-holds
     code-at-requires
-    falsified-requires
+    cast-marks
+    add-marks
     sub-marks
-    array-write-marks
+    mul-marks
+    element-write-marks
     add-i
     loop-less
     loop-again

@@ -1,89 +1,111 @@
 -- `checker::resolve::resolution_finding` meets its contract. The parts and the pivot that are read are those of the three
 -- bodies; pivot, resolvent and bounds are tried in the definition's order.
 -- Assumes nothing.
+use mathlib.Core.Path.{_∙_, sym}
+use native.Mathlib.Omega.{arith}
 use borrow.Author.Needs.{needs}
 use borrow.Author.Tests.{not-true, not-false}
-use Rattle.checker.proofs.Resolution.{in-form, pivot-fault, resolvent-fault, bounds-left}
+use Rattle.checker.proofs.Marking.{stale-later}
+use Rattle.checker.proofs.Resolution.{in-form, pivot-beyond, pivot-fault, resolvent-fault, bounds-left}
 use Rattle.checker.proofs.resolve.resolution_finding.Statement.{statement}
 use Rattle.checker.proofs.resolve.resolution_finding.Tie as tie
-
-literals-of-requires : tie.Need-literals-of-requires
-literals-of-requires c κs = search needs
-
-literals-of-requires-2 : tie.Need-literals-of-requires-2
-literals-of-requires-2 c κs = search needs
-
-literals-of-requires-3 : tie.Need-literals-of-requires-3
-literals-of-requires-3 c κs = search needs
 
 pivot-of-requires : tie.Need-pivot-of-requires
 pivot-of-requires c κs = search needs
 
-has-pivot-requires : tie.Need-has-pivot-requires
-has-pivot-requires c κs =
-    let l = c .before .before .before in
-    let forms = l .before .before .before .before .pre in (
-      in-form (l .literals-of .ensures) (forms .of-x),
-      in-form (c .before .before .literals-of2 .ensures) (forms .of-y),
-      c .pivot-of .ensures .1,
-    )
-
 returns : tie.Need-returns
 returns c =
-    let p = c .before .before in
-    let l = p .before .before .before in
-    let a = l .before .before .before .before .args in
-    pivot-fault (a .x .now) (a .y .now) (a .b .now) (a .k) (l .literals-of .ensures) (p .before .before .literals-of2 .ensures)
-    (p .before .literals-of3 .ensures) (p .pivot-of .ensures .0) (c .before .has-pivot .ensures) (not-true _ (c .if1 .taken))
+    let f = c .before in
+    let s = f .before .before .before .before in
+    let a = s .args in
+    (pivot-beyond (a .x .now) (a .y .now) (a .b .now) (a .k) (f .pivot-of .ensures .0) (s .pre .0 .of-x .list) (omega arith), stale-later (omega arith) (s .pre .1))
 
-is-resolvent-requires : tie.Need-is-resolvent-requires
-is-resolvent-requires c κs =
-    let p = c .before .before in
-    let l = p .before .before .before in
-    let forms = l .before .before .before .before .pre in (
-      in-form (l .literals-of .ensures) (forms .of-x),
-      in-form (p .before .before .literals-of2 .ensures) (forms .of-y),
-      in-form (p .before .literals-of3 .ensures) (forms .of-b),
-      p .pivot-of .ensures .1,
+whole-literals-requires : tie.Need-whole-literals-requires
+whole-literals-requires c κs = search needs
+
+whole-literals-requires-2 : tie.Need-whole-literals-requires-2
+whole-literals-requires-2 c κs = search needs
+
+whole-literals-requires-3 : tie.Need-whole-literals-requires-3
+whole-literals-requires-3 c κs = search needs
+
+mul-resolve : tie.Need-mul-resolve
+mul-resolve c = search needs
+
+resolve-requires : tie.Need-resolve-requires
+resolve-requires c κs =
+    let l3 = c .before in
+    let l1 = l3 .before .before in
+    let f = l1 .before .before in
+    let h = f .before .before .before .before .pre in (
+      h .1,
+      in-form (l1 .whole-literals .ensures) (h .0 .of-x .list),
+      in-form (l3 .before .whole-literals2 .ensures) (h .0 .of-y .list),
+      in-form (l3 .whole-literals3 .ensures) (h .0 .of-b .list),
+      omega arith,
+      omega arith,
     )
 
 returns-2 : tie.Need-returns-2
 returns-2 c =
-    let t = c .before .before in
-    let p = t .before .before in
-    let l = p .before .before .before in
-    let a = l .before .before .before .before .args in
-    resolvent-fault (a .x .now) (a .y .now) (a .b .now) (a .k) (l .literals-of .ensures) (p .before .before .literals-of2 .ensures)
-    (p .before .literals-of3 .ensures) (p .pivot-of .ensures .0) (t .before .has-pivot .ensures) (not-false _ (t .if1 .left))
-    (c .before .is-resolvent .ensures) (not-true _ (c .if2 .taken))
+    let r = c .before .before in
+    let l3 = r .before .before in
+    let l1 = l3 .before .before in
+    let f = l1 .before .before in
+    let a = f .before .before .before .before .args in (
+      pivot-fault (a .x .now) (a .y .now) (a .b .now) (a .k) (l1 .whole-literals .ensures) (l3 .before .whole-literals2 .ensures)
+          (l3 .whole-literals3 .ensures) (f .pivot-of .ensures .0) (r .resolve .ensures .1 .0) (not-true _ (c .if2 .taken)),
+      r .resolve .ensures .0,
+    )
+
+returns-3 : tie.Need-returns-3
+returns-3 c =
+    let i = c .before .before in
+    let r = i .before .before in
+    let l3 = r .before .before in
+    let l1 = l3 .before .before in
+    let f = l1 .before .before in
+    let a = f .before .before .before .before .args in
+    let has = not-false _ (i .if2 .left) in (
+      resolvent-fault (a .x .now) (a .y .now) (a .b .now) (a .k) (l1 .whole-literals .ensures) (l3 .before .whole-literals2 .ensures)
+          (l3 .whole-literals3 .ensures) (f .pivot-of .ensures .0) (r .resolve .ensures .1 .0) has (r .resolve .ensures .1 .1 has)
+          (not-true _ (c .if3 .taken)),
+      r .resolve .ensures .0,
+    )
 
 bound-finding-requires : tie.Need-bound-finding-requires
 bound-finding-requires c κs = search needs
 
-returns-3 : tie.Need-returns-3
-returns-3 c =
-    let u = c .before in
-    let t = u .before .before in
-    let p = t .before .before in
-    let l = p .before .before .before in
-    let a = l .before .before .before .before .args in
-    rw
-    (bounds-left (a .x .now) (a .y .now) (a .b .now) (a .k) (l .literals-of .ensures) (p .before .before .literals-of2 .ensures)
-    (p .before .literals-of3 .ensures) (p .pivot-of .ensures .0) (t .before .has-pivot .ensures) (not-false _ (t .if1 .left))
-    (u .before .is-resolvent .ensures) (not-false _ (u .if2 .left)))
-    (c .bound-finding .ensures)
+returns-4 : tie.Need-returns-4
+returns-4 c =
+    let j = c .before in
+    let i = j .before .before in
+    let r = i .before .before in
+    let l3 = r .before .before in
+    let l1 = l3 .before .before in
+    let f = l1 .before .before in
+    let a = f .before .before .before .before .args in
+    let has = not-false _ (i .if2 .left) in (
+      rw
+          (bounds-left (a .x .now) (a .y .now) (a .b .now) (a .k) (l1 .whole-literals .ensures) (l3 .before .whole-literals2 .ensures)
+          (l3 .whole-literals3 .ensures) (f .pivot-of .ensures .0) (r .resolve .ensures .1 .0) has (r .resolve .ensures .1 .1 has)
+          (not-false _ (j .if3 .left)))
+          (c .bound-finding .ensures),
+      r .resolve .ensures .0,
+    )
 
 pub resolution-finding-spec : {M : Type 1} → statement M
 resolution-finding-spec =
     tie.close
     (tie.spec
-    literals-of-requires
-    literals-of-requires-2
-    literals-of-requires-3
     pivot-of-requires
-    has-pivot-requires
     returns
-    is-resolvent-requires
+    whole-literals-requires
+    whole-literals-requires-2
+    whole-literals-requires-3
+    mul-resolve
+    resolve-requires
     returns-2
+    returns-3
     bound-finding-requires
-    returns-3)
+    returns-4)
