@@ -64,62 +64,63 @@ impl Resolve for Merge {
     }
 }
 
-/// Marks the codes of d, and looks up those of a and b.
-pub struct Marks([u8; SIZE]);
+/// Marks the codes of d, then looks up those of a and b and marks them anew. Each step's marks are above those of the steps
+/// before it, so that none has to be taken away.
+pub struct Marks {
+    marks: [u32; SIZE],
+    /// The greatest mark so far. A record of k steps has 8 k bytes at least, so that two marks for each fit.
+    last: u32,
+}
 
 /// A power of 2 above every code, so that a mask spares the test of an index.
 const SIZE: usize = 4096;
-const UNSET: u8 = 0;
-/// Lowest bit set, unlike the other two: it counts itself.
-const SET: u8 = 1;
-const CHECKED: u8 = 2;
 
 impl Marks {
-    fn mark(&mut self, code: usize) -> &mut u8 {
-        &mut self.0[code % SIZE]
+    fn mark(&mut self, code: usize) -> &mut u32 {
+        &mut self.marks[code % SIZE]
     }
 
-    /// How many literals of the list are in d and were not met before, or nothing where one is not in d or `out` is not
-    /// in the list.
-    fn count(&mut self, list: Codes, out: usize) -> Option<usize> {
-        let mut count = 0;
-        let mut met = false;
+    /// Whether `out` is in the list, and every other literal of it has a mark from `least` on; then they have the next one. There
+    /// is no early exit and no branch at `out`: a fault ends it all, and where `out` stands cannot be guessed.
+    fn check_off(&mut self, list: Codes, out: usize, least: u32) -> bool {
+        *self.mark(out) = least;
+        let mut marked = true;
         for &stored in list {
-            let code = code(stored);
-            if code == out {
-                met = true;
-                continue;
-            }
-            let mark = self.mark(code);
-            if *mark == UNSET {
-                return None;
-            }
-            count += usize::from(*mark & SET);
-            *mark = CHECKED;
+            let mark = self.mark(code(stored));
+            marked &= *mark >= least;
+            *mark = least + 1;
         }
-        met.then_some(count)
+        let met = *self.mark(out) > least;
+        *self.mark(out) = 0;
+        marked && met
     }
 }
 
 impl Resolve for Marks {
     fn new() -> Self {
-        Marks([UNSET; SIZE])
+        Marks {
+            marks: [0; SIZE],
+            last: 0,
+        }
     }
 
     fn resolves(&mut self, a: Codes, b: Codes, pivot: usize, d: Codes) -> bool {
-        for &stored in d {
-            *self.mark(code(stored)) = SET;
-        }
-        let Some(from_a) = self.count(a, 2 * pivot) else {
+        // No list holds a pivot above 1,024, and its mark would be another literal's.
+        if 2 * pivot + 1 >= SIZE {
             return false;
-        };
-        let Some(from_b) = self.count(b, 2 * pivot + 1) else {
-            return false;
-        };
-        for &stored in d {
-            *self.mark(code(stored)) = UNSET;
         }
-        from_a + from_b == d.len()
+        let least = self.last + 1;
+        self.last = least + 1;
+        for &stored in d {
+            *self.mark(code(stored)) = least;
+        }
+        let covered =
+            self.check_off(a, 2 * pivot, least) && self.check_off(b, 2 * pivot + 1, least);
+        let mut met = true;
+        for &stored in d {
+            met &= *self.mark(code(stored)) == least + 1;
+        }
+        covered && met
     }
 }
 
