@@ -25,10 +25,10 @@ use Rattle.judgement.proofs.FirstByte.{kind-begins, kind-copy, kind-costs, kind
 use Rattle.judgement.proofs.Inferences.{step-layout, step-facts}
 use Rattle.checker.specs.Known.{Known, Formed}
 use Rattle.checker.specs.Independent.{Citable}
-use Rattle.checker.specs.Read.{Within}
+use Rattle.checker.specs.Read.{Within, Priced}
 use Rattle.checker.specs.Resolve.{InForm, Forms}
 use Rattle.checker.proofs.Body.{pair-within}
-use Rattle.checker.proofs.Cited.{list-within, citable}
+use Rattle.checker.proofs.Cited.{list-within, priced, citable}
 
 -- ---- where the steps stand
 
@@ -55,6 +55,12 @@ module _ (s r b : List ℕ) (k : ℕ) (formed : Formed s r b k) where
   may-cite : citesFine (kindOf b) s k b ≡ true
   unfolding citation
   may-cite = need-true (citesFine (kindOf b) s k b) 9 k (formed .cites)
+
+  -- the costs of its variables stand in the sheet
+  pub own-priced : Priced s (literals b)
+  own-priced =
+      let sheet = formed .known .sheet in
+      priced s (sheet .n .1) (omega (arith, sheet .room)) (own-layout .list)
 
   -- kind 3 cites clauses of the sheet, one after the other
   pub cited-clauses : kindOf b ≡ independent → Rising (cited b) (clauses s) (citedCount b)

@@ -6,7 +6,7 @@ use mathlib.Core.Bool.{Bool, true, false, not, cond, _&&_, _||_, and-true}
 use mathlib.Core.List.{List}
 use native.Mathlib.Omega.{arith}
 use native.Mathlib.Decide.{ℕ-discrete}
-use borrow.Author.Tests.{eq-eqb, ne-eqb, le-leb, lt-leb}
+use borrow.Author.Tests.{eq-eqb, ne-eqb, eqb-true, le-leb, lt-leb}
 use lib.Dec.{eqb, leb}
 use lib.ListN.{length, set}
 use Rattle.judgement.specs.Scan.{allOf}
@@ -16,49 +16,62 @@ use Rattle.judgement.specs.Literals.{count, code, holds}
 use Rattle.judgement.specs.Step.{bound, literals, pivotOf}
 use Rattle.judgement.specs.Kinds.{noneTrue, inResolvent, coveredBut, oneWay, isResolvent, pivotFinding, resolventFinding, lesserBound, resolutionFinding}
 use Rattle.judgement.specs.Facts.{Among, LiteralList}
-use Rattle.judgement.proofs.Scan.{clash, and-l, and-r, false-i, all-each}
+use Rattle.judgement.proofs.Scan.{clash, and-l, and-r, false-i, all-each, all-of, sum-same}
 use Rattle.judgement.proofs.Membership.{holds-in, in-holds}
 use Rattle.judgement.proofs.IndependentSet.{true-none}
 use Rattle.judgement.proofs.Typed.{codesIn}
 use Rattle.judgement.proofs.Codes.{codes-ascending}
 use Rattle.judgement.proofs.Stored.{in-codes, ascending-one-way}
-use Rattle.checker.specs.Marks.{markAt, Marked, withMarks, Stale}
-use Rattle.checker.proofs.Marking.{all-same, set-mark, one-way, other-way}
+use Rattle.checker.specs.Marks.{markAt, Marked, withMarks, tally, Stale}
+use Rattle.checker.proofs.Marking.{all-same, set-mark, one-way, other-way, true-same}
+use Rattle.checker.proofs.Counting.{one, size, counted, counted-all, size-sum, size-same, size-each}
 
--- ---- a premise: `out` gets the mark t, the literals are checked off, and `out` loses its mark
+-- ---- a premise: `out` gets the mark t + 2, the literals are checked off, and `out` loses its mark
 
 -- the marks after a premise
 abbrev pub afterPremise : List ℕ → ℕ → ℕ → (ℕ → ℕ) → ℕ → ℕ
 afterPremise part out t before c = cond (eqb out c) 0 (cond (holds part c) (t + 1) (before c))
 
 module _ (part before : List ℕ) (out t : ℕ) (h : out < length before) where
-  reached : (c : ℕ) → leb t (markAt (set before out t) c) ≡ eqb c out || leb t (markAt before c)
+  reached : (c : ℕ) → leb t (markAt (set before out (t + 2)) c) ≡ eqb c out || leb t (markAt before c)
   reached c = go (ℕ-discrete out c)
     where
-      go : Dec (out ≡ c) → leb t (markAt (set before out t) c) ≡ eqb c out || leb t (markAt before c)
-      go (yes e) = rw (set-mark before out t h c, eq-eqb out c e, eq-eqb c out (sym e)) (le-leb t t (omega arith))
-      go (no e) = rw (set-mark before out t h c, ne-eqb out c e, ne-eqb c out (λ z. e (sym z)))
+      go : Dec (out ≡ c) → leb t (markAt (set before out (t + 2)) c) ≡ eqb c out || leb t (markAt before c)
+      go (yes e) = rw (set-mark before out (t + 2) h c, eq-eqb out c e, eq-eqb c out (sym e)) (le-leb t (t + 2) (omega arith))
+      go (no e) = rw (set-mark before out (t + 2) h c, ne-eqb out c e, ne-eqb c out (λ z. e (sym z)))
 
-  pub premise-covered : allOf (λ i. leb t (markAt (set before out t) (code part i))) (count part)
+  pub premise-covered : allOf (λ i. leb t (markAt (set before out (t + 2)) (code part i))) (count part)
       ≡ allOf (λ i. eqb (code part i) out || leb t (markAt before (code part i))) (count part)
   premise-covered =
-      all-same (λ i. leb t (markAt (set before out t) (code part i))) (λ i. eqb (code part i) out || leb t (markAt before (code part i)))
+      all-same (λ i. leb t (markAt (set before out (t + 2)) (code part i))) (λ i. eqb (code part i) out || leb t (markAt before (code part i)))
       (count part) (λ i w. reached (code part i))
 
-  module _ (marks : List ℕ) (m : Marked marks (withMarks part (t + 1) (set before out t))) where
-    pub premise-pivot : not (eqb (markAt marks out) t) ≡ holds part out
-    premise-pivot = rw (m out, set-mark before out t h out, eq-eqb out out refl) (go (holds part out))
+  still : (c : ℕ) → eqb (markAt (set before out (t + 2)) c) t ≡ not (eqb out c) && eqb (markAt before c) t
+  still c = rw (set-mark before out (t + 2) h c) (go (eqb out c))
+    where
+      go : (x : Bool) → eqb (cond x (t + 2) (markAt before c)) t ≡ not x && eqb (markAt before c) t
+      go true = ne-eqb (t + 2) t (λ z. omega arith)
+      go false = refl
+
+  pub premise-fresh : tally (λ c. eqb (markAt (set before out (t + 2)) c) t) part ≡ tally (λ c. not (eqb out c) && eqb (markAt before c) t) part
+  premise-fresh =
+      sum-same (λ i. one (eqb (markAt (set before out (t + 2)) (code part i)) t)) (λ i. one (not (eqb out (code part i)) && eqb (markAt before (code part i)) t))
+      (count part) (λ i w. rw (still (code part i)))
+
+  module _ (marks : List ℕ) (m : Marked marks (withMarks part (t + 1) (set before out (t + 2)))) where
+    pub premise-pivot : not (eqb (markAt marks out) (t + 2)) ≡ holds part out
+    premise-pivot = rw (m out, set-mark before out (t + 2) h out, eq-eqb out out refl) (go (holds part out))
       where
-        go : (x : Bool) → not (eqb (cond x (t + 1) t) t) ≡ x
-        go true = rw (ne-eqb (t + 1) t (λ z. omega arith))
-        go false = rw (eq-eqb t t refl)
+        go : (x : Bool) → not (eqb (cond x (t + 1) (t + 2)) (t + 2)) ≡ x
+        go true = rw (ne-eqb (t + 1) (t + 2) (λ z. omega arith))
+        go false = rw (eq-eqb (t + 2) (t + 2) refl)
 
     pub premise-marks : out < length marks → Marked (set marks out 0) (afterPremise part out t (markAt before))
     premise-marks l c = go (ℕ-discrete out c)
       where
         go : Dec (out ≡ c) → markAt (set marks out 0) c ≡ afterPremise part out t (markAt before) c
         go (yes e) = rw (set-mark marks out 0 l c, eq-eqb out c e)
-        go (no e) = rw (set-mark marks out 0 l c, ne-eqb out c e, m c, set-mark before out t h c, ne-eqb out c e)
+        go (no e) = rw (set-mark marks out 0 l c, ne-eqb out c e, m c, set-mark before out (t + 2) h c, ne-eqb out c e)
 
 -- ---- a resolution: D is marked, then A but p and B but not p are checked off
 
@@ -120,34 +133,119 @@ module _ (A B D before : List ℕ) (p t : ℕ) (stale : Stale 2050 before t) whe
         (count B) (λ i w. rw (told-b (code B i) (λ z. clash (in-holds B (positive p) (i, w, z)) (other-way B 1024 p b has))))
 
   module _ (a : LiteralList 1024 A) (b : LiteralList 1024 B) (has-a : holds A (positive p) ≡ true) (has-b : holds B (negative p) ≡ true) where
-    checked : (c : ℕ) → eqb (ofB A B D p t before c) (t + 1) ≡ inResolvent A B p c
+    -- the literals that lose the mark t, in A and in B, are those of the step that are in the resolvent
+    lost : (c : ℕ) → one (holds D c && inResolvent A B p c)
+        ≡ one ((not (eqb (positive p) c) && eqb (ofD D t before c) t) && holds A c)
+        + one ((not (eqb (negative p) c) && eqb (ofA A D p t before c) t) && holds B c)
     unfolding inResolvent
-    checked c = go (ℕ-discrete (negative p) c) (ℕ-discrete (positive p) c)
+    lost c = go (ℕ-discrete (negative p) c) (ℕ-discrete (positive p) c)
       where
-        zero-not : eqb 0 (t + 1) ≡ false
-        zero-not = ne-eqb 0 (t + 1) (λ z. omega arith)
+        in-d : eqb (ofD D t before c) t ≡ holds D c
+        in-d = told-d (holds D c)
+          where
+            told-d : (x : Bool) → eqb (cond x t (markAt before c)) t ≡ x
+            told-d true = eq-eqb t t refl
+            told-d false = ne-eqb (markAt before c) t (λ z. omega (arith, z, stale .below c))
 
-        last : (x : Bool) → eqb (cond x t (markAt before c)) (t + 1) ≡ false
-        last true = ne-eqb t (t + 1) (λ z. omega arith)
-        last false = ne-eqb (markAt before c) (t + 1) (λ z. omega (arith, z, stale .below c))
+        in-neither : eqb (cond (holds A c) (t + 1) (ofD D t before c)) t ≡ not (holds A c) && holds D c
+        in-neither = told-a (holds A c)
+          where
+            told-a : (x : Bool) → eqb (cond x (t + 1) (ofD D t before c)) t ≡ not x && holds D c
+            told-a true = ne-eqb (t + 1) t (λ z. omega arith)
+            told-a false = in-d
 
-        both-out : (x y : Bool) → eqb (cond y (t + 1) (cond x (t + 1) (ofD D t before c))) (t + 1) ≡ x && true || y && true
-        both-out true true = eq-eqb (t + 1) (t + 1) refl
-        both-out false true = eq-eqb (t + 1) (t + 1) refl
-        both-out true false = eq-eqb (t + 1) (t + 1) refl
-        both-out false false = last (holds D c)
+        some : eqb 0 t ≡ false
+        some = ne-eqb 0 t (λ z. omega (arith, z, stale .below c))
 
-        go : Dec (negative p ≡ c) → Dec (positive p ≡ c) → eqb (ofB A B D p t before c) (t + 1) ≡ holds A c && not (eqb c (positive p)) || holds B c && not (eqb c (negative p))
-        go (yes e) q = rw (eq-eqb (negative p) c e, zero-not, eq-eqb c (negative p) (sym e), ← e, one-way A 1024 p a has-a, has-b)
+        out-b : (d b x : Bool) → one (d && (false || b && false)) ≡ one (x && false) + one false
+        out-b true true true = refl
+        out-b true true false = refl
+        out-b true false true = refl
+        out-b true false false = refl
+        out-b false b true = refl
+        out-b false b false = refl
+
+        out-a : (d a : Bool) → one (d && (a && false || false)) ≡ one false + one false
+        out-a true true = refl
+        out-a true false = refl
+        out-a false a = refl
+
+        sum : (d x y : Bool) → one (d && (x && true || y && true)) ≡ one ((true && d) && x) + one ((true && (not x && d)) && y)
+        sum true true true = refl
+        sum true true false = refl
+        sum true false true = refl
+        sum true false false = refl
+        sum false true y = refl
+        sum false false y = refl
+
+        go : Dec (negative p ≡ c) → Dec (positive p ≡ c) → one (holds D c && (holds A c && not (eqb c (positive p)) || holds B c && not (eqb c (negative p))))
+            ≡ one ((not (eqb (positive p) c) && eqb (ofD D t before c) t) && holds A c)
+            + one ((not (eqb (negative p) c) && eqb (ofA A D p t before c) t) && holds B c)
+        go (yes e) q =
+            let none : holds A c ≡ false = rw e at (one-way A 1024 p a has-a) in
+            rw (eq-eqb (negative p) c e, eq-eqb c (negative p) (sym e), none)
+            (out-b (holds D c) (holds B c) (not (eqb (positive p) c) && eqb (ofD D t before c) t))
         go (no e) (yes q) =
-            rw (ne-eqb (negative p) c e, eq-eqb (positive p) c q, eq-eqb c (positive p) (sym q), ← q, has-a, other-way B 1024 p b has-b) zero-not
+            let none : holds B c ≡ false = rw q at (other-way B 1024 p b has-b) in
+            rw (eq-eqb (positive p) c q, eq-eqb c (positive p) (sym q), ne-eqb (negative p) c e, none, some) (out-a (holds D c) (holds A c))
         go (no e) (no q) =
-            rw (ne-eqb (negative p) c e, ne-eqb (positive p) c q, ne-eqb c (positive p) (λ z. q (sym z)), ne-eqb c (negative p) (λ z. e (sym z)))
-            (both-out (holds A c) (holds B c))
+            rw (
+              ne-eqb (negative p) c e,
+              ne-eqb (positive p) c q,
+              ne-eqb c (positive p) (λ z. q (sym z)),
+              ne-eqb c (negative p) (λ z. e (sym z)),
+              in-d,
+              in-neither,
+            ) (sum (holds D c) (holds A c) (holds B c))
 
-    pub all-checked : allOf (λ i. eqb (ofB A B D p t before (code D i)) (t + 1)) (count D) ≡ allOf (λ i. inResolvent A B p (code D i)) (count D)
-    all-checked =
-        all-same (λ i. eqb (ofB A B D p t before (code D i)) (t + 1)) (λ i. inResolvent A B p (code D i)) (count D) (λ i w. checked (code D i))
+    -- so they are as many as the step's literals exactly when all of these are in the resolvent
+    pub all-lost : LiteralList 1024 D
+        → eqb (tally (λ c. not (eqb (positive p) c) && eqb (ofD D t before c) t) A + tally (λ c. not (eqb (negative p) c) && eqb (ofA A D p t before c) t) B)
+        (count D)
+        ≡ allOf (λ i. inResolvent A B p (code D i)) (count D)
+    all-lost d =
+        true-same _ (allOf (λ i. inResolvent A B p (code D i)) (count D))
+        (λ h. all-of (λ i. inResolvent A B p (code D i)) (count D) (λ i w. each (eqb-true _ (count D) h) i w))
+        (λ h. eq-eqb _ (count D) (same h))
+      where
+        sum : tally (λ c. not (eqb (positive p) c) && eqb (ofD D t before c) t) A
+            + tally (λ c. not (eqb (negative p) c) && eqb (ofA A D p t before c) t) B
+            ≡ size (λ c. holds D c && inResolvent A B p c) 2050
+        sum =
+            rw (
+              counted A 2050 (omega arith) a (λ c. not (eqb (positive p) c) && eqb (ofD D t before c) t),
+              counted B 2050 (omega arith) b (λ c. not (eqb (negative p) c) && eqb (ofA A D p t before c) t),
+            )
+            (size-sum
+            (λ c. holds D c && inResolvent A B p c)
+            (λ c. (not (eqb (positive p) c) && eqb (ofD D t before c) t) && holds A c)
+            (λ c. (not (eqb (negative p) c) && eqb (ofA A D p t before c) t) && holds B c)
+            2050
+            lost)
+
+        each : tally (λ c. not (eqb (positive p) c) && eqb (ofD D t before c) t) A
+            + tally (λ c. not (eqb (negative p) c) && eqb (ofA A D p t before c) t) B
+            ≡ count D → (i : ℕ) → Among (count D) i → inResolvent A B p (code D i) ≡ true
+        each e i w =
+            let r = d .variables .range i w in
+            size-each (holds D) (inResolvent A B p) 2050 (sym sum ∙ e ∙ counted-all D 2050 (omega arith) d) (code D i)
+            (omega (arith, r .0), omega (arith, r .1))
+            (in-holds D (code D i) (i, w, refl))
+
+        same : allOf (λ i. inResolvent A B p (code D i)) (count D) ≡ true
+            → tally (λ c. not (eqb (positive p) c) && eqb (ofD D t before c) t) A
+            + tally (λ c. not (eqb (negative p) c) && eqb (ofA A D p t before c) t) B
+            ≡ count D
+        same h =
+            sum
+            ∙ size-same (λ c. holds D c && inResolvent A B p c) (holds D) 2050 (λ c w. go c (holds D c) refl)
+            ∙ sym (counted-all D 2050 (omega arith) d)
+          where
+            go : (c : ℕ) (x : Bool) → holds D c ≡ x → x && inResolvent A B p c ≡ x
+            go c true q =
+                let (i, w, e) = holds-in D c q in
+                rw e at (all-each (λ i. inResolvent A B p (code D i)) (count D) h i w)
+            go c false q = refl
 
   -- every mark is t + 1 at most
   pub after-stale : {marks : List ℕ} → length marks ≡ 2050 → Marked marks (ofB A B D p t before) → Stale 2050 marks (t + 2)
@@ -178,7 +276,9 @@ module _ (A B D before : List ℕ) (p t : ℕ) (stale : Stale 2050 before t) (a 
   module _ {px cx py cy found covered pivot resolvent : Bool} (is-px : px ≡ holds A (positive p)) (is-py : py ≡ holds B (negative p))
       (is-cx : cx ≡ allOf (λ i. eqb (code A i) (positive p) || leb t (markAt L1 (code A i))) (count A))
       (is-cy : cy ≡ allOf (λ i. eqb (code B i) (negative p) || leb t (markAt La (code B i))) (count B))
-      (is-found : found ≡ allOf (λ i. eqb (markAt Lb (code D i)) (t + 1)) (count D)) (is-covered : covered ≡ cx && cy)
+      {fx fy : ℕ} (is-fx : fx ≡ tally (λ c. not (eqb (positive p) c) && eqb (markAt L1 c) t) A)
+      (is-fy : fy ≡ tally (λ c. not (eqb (negative p) c) && eqb (markAt La c) t) B) (is-found : found ≡ eqb (fx + fy) (count D))
+      (is-covered : covered ≡ cx && cy)
       (is-pivot : pivot ≡ px && py) (is-resolvent : resolvent ≡ covered && found) where
     a-covers : cx ≡ coveredBut A (positive p) D
     a-covers =
@@ -197,9 +297,14 @@ module _ (A B D before : List ℕ) (p t : ℕ) (stale : Stale 2050 before t) (a 
     d-resolved : holds A (positive p) ≡ true → holds B (negative p) ≡ true → found ≡ allOf (λ i. inResolvent A B p (code D i)) (count D)
     d-resolved has-a has-b =
         is-found
-        ∙ all-same (λ i. eqb (markAt Lb (code D i)) (t + 1)) (λ i. eqb (ofB A B D p t before (code D i)) (t + 1)) (count D)
-        (λ i w. rw (marks-b (code D i)))
-        ∙ all-checked A B D before p t stale a b has-a has-b
+        ∙ rw (
+          is-fx
+              ∙ sum-same (λ i. one (not (eqb (positive p) (code A i)) && eqb (markAt L1 (code A i)) t))
+              (λ i. one (not (eqb (positive p) (code A i)) && eqb (ofD D t before (code A i)) t)) (count A) (λ i w. rw (m1 (code A i))),
+          is-fy
+              ∙ sum-same (λ i. one (not (eqb (negative p) (code B i)) && eqb (markAt La (code B i)) t))
+              (λ i. one (not (eqb (negative p) (code B i)) && eqb (ofA A D p t before (code B i)) t)) (count B) (λ i w. rw (marks-a (code B i))),
+        ) (all-lost A B D before p t stale a b has-a has-b d)
 
     pub resolution-pivot : pivot ≡ holds A (positive p) && holds B (negative p)
     resolution-pivot = rw (← is-px, ← is-py) is-pivot

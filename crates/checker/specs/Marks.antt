@@ -8,7 +8,8 @@ use mathlib.Core.List.{List}
 use lib.Dec.{eqb}
 use lib.ListN.{length, getD}
 use Rattle.judgement.specs.Meaning.{variableOf}
-use Rattle.judgement.specs.Literals.{holds, mentions}
+use Rattle.judgement.specs.Scan.{sumOf}
+use Rattle.judgement.specs.Literals.{count, code, holds, mentions}
 use Rattle.judgement.specs.Facts.{Among}
 
 abbrev pub markAt : List ℕ → ℕ → ℕ
@@ -28,6 +29,10 @@ Marked marks f = (c : ℕ) → markAt marks c ≡ f c
 -- the marks of `before`, and t of the literals of the list
 abbrev pub withMarks : List ℕ → ℕ → List ℕ → ℕ → ℕ
 withMarks part t before c = cond (holds part c) t (markAt before c)
+
+-- how many literals of the list pass
+abbrev pub tally : (ℕ → Bool) → List ℕ → ℕ
+tally f part = sumOf (λ i. cond (f (code part i)) 1 0) (count part)
 
 -- ---- kind 3: a mark for each of 1,024 variables, that of v at v - 1
 

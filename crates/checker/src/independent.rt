@@ -9,16 +9,19 @@ use judgement::Finding;
 ghost use mathlib.Core.Path.{_≡_};
 ghost use mathlib.Core.Bool.{Bool, true, false, not, cond, _||_};
 ghost use mathlib.Core.List.{List};
-ghost use Prim.Native.Nat.{ℕ, _+_, _*_, _/_, _^_, _<_};
+ghost use Prim.Native.Nat.{ℕ, _+_, _*_, _/_, _^_, _≤_, _<_};
 ghost use lib.Dec.{eqb};
+ghost use lib.ListN.{length};
 ghost use Rattle.judgement.specs.Meaning.{variableOf, none};
 ghost use Rattle.judgement.specs.Finding.{_then_};
+ghost use Rattle.judgement.specs.Number.{numberAt};
+ghost use Rattle.judgement.specs.Pairs.{body};
 ghost use Rattle.judgement.specs.Literals.{count, code, holds, mentions};
 ghost use Rattle.judgement.specs.Sheet.{costOf};
-ghost use Rattle.judgement.specs.Step.{citedCount};
 ghost use Rattle.judgement.specs.Kinds.{leastUnsettled, dependence, independentBound};
-ghost use Rattle.judgement.specs.Facts.{Among, LiteralList, citedClause};
+ghost use Rattle.judgement.specs.Facts.{Among, LiteralList};
 ghost use Rattle.checker.specs.Marks.{Stale, IndependentMarks};
+ghost use Rattle.checker.specs.Read.{Within, Priced};
 ghost use Rattle.checker.specs.Independent.{Citable, fits, isIndependent};
 
 // "None": above every cost.
@@ -87,11 +90,11 @@ fn meet(marks: &mut [u32; 1024], c: usize, t: u32) -> Met
 
 // What the variable of a literal costs, and "none" where it is settled.
 fn free_cost(s: &[u8], c: usize, free: bool) -> u64
-    requires { ⌜ Among 1024 (c / 2) ⌝ }
+    requires { ⌜ (1 ≤ c / 2) × (4 * (c / 2) + 4 ≤ length (now s)) ⌝ }
     ensures { λ r. ⌜ r ≡ cond free (costOf (now (s .entry)) (variableOf c)) none ⌝ }
 {
     if free {
-        return sheet::cost_of(s, (c / 2) as u32);
+        return cost::cost_at(s, c / 2);
     }
     NONE
 }
@@ -104,7 +107,7 @@ struct Cited {
 
 // Looks at a cited clause, and marks its unsettled variables as used.
 fn look_at(marks: &mut [u32; 1024], s: &[u8], clause: &[u8], t: u32) -> Cited
-    requires { ⌜ Stale 1024 (now marks) (t + 3) × LiteralList 1024 (now clause) × (t + 2 < 2 ^ 32) ⌝ }
+    requires { ⌜ Stale 1024 (now marks) (t + 3) × Priced (now s) (now clause) × (t + 2 < 2 ^ 32) ⌝ }
     ensures stale { λ _. ⌜ Stale 1024 (now (marks .exit)) (t + 3) ⌝ }
     ensures told { λ r. ⌜ ((D : List ℕ) (uses : ℕ → Bool) → IndependentMarks D uses t (now (marks .entry)) → r .fine ≡ isIndependent D uses (now (clause .entry))) ⌝ }
     ensures least { λ r. ⌜ ((D : List ℕ) (uses : ℕ → Bool) → IndependentMarks D uses t (now (marks .entry)) → r .fine ≡ true → r .least ≡ leastUnsettled (now (s .entry)) D (now (clause .entry))) ⌝ }
@@ -131,12 +134,12 @@ fn look_at(marks: &mut [u32; 1024], s: &[u8], clause: &[u8], t: u32) -> Cited
     }
 }
 
-// The j-th cited clause, a part of the sheet.
-fn cited_clause<'a>(s: &'a [u8], b: &[u8], j: u32) -> &'a [u8]
-    requires { ⌜ Citable (now s) (now b) × Among (citedCount (now b)) j ⌝ }
-    ensures { λ r. ⌜ (now r ≡ citedClause (now (s .entry)) (now (b .entry)) j) × LiteralList 1024 (now r) ⌝ }
+// Cited clause j + 1, a part of the sheet, whose pairs begin at `pairs`; the tail begins with the clauses' numbers.
+fn cited_clause<'a>(s: &'a [u8], pairs: usize, tail: &[u8], j: usize) -> &'a [u8]
+    requires { ⌜ (4 * j + 4 ≤ length (now tail)) × Within (now s) pairs (numberAt (now tail) (4 * j) 4) ⌝ }
+    ensures { λ r. ⌜ now r ≡ body (now (s .entry)) pairs (numberAt (now (tail .entry)) (4 * j) 4) ⌝ }
 {
-    read::body_at(s, sheet::clause_pairs_at(s) as usize, step::cited_at(b, j))
+    read::body_at(s, pairs, read::u32_at(tail, 4 * j) as u32)
 }
 
 // Refusals 14 and 15. The sum is what the list costs, and beside it what each cited clause costs at least.
@@ -148,10 +151,12 @@ pub(crate) fn independent_finding(marks: &mut [u32; 1024], s: &[u8], b: &[u8], k
     let list = step::literals_of(b);
     mark_settled(marks, list, 4 * k);
     let mut sum = cost::negative_cost(s, list);
-    let count = step::cited_count(b) as u32;
-    let mut j: u32 = 0;
+    let tail = step::tail_of(b);
+    let pairs = sheet::clause_pairs_at(s) as usize;
+    let count = tail.len() / 4;
+    let mut j = 0;
     while j < count {
-        let clause = cited_clause(s, b, j + 1);
+        let clause = cited_clause(s, pairs, tail, j);
         let cited = look_at(marks, s, clause, 4 * k);
         if !cited.fine {
             return Finding::Fault(14, k);

@@ -22,7 +22,7 @@ pub(crate) fn u16_at(part: &[u8], at: usize) -> usize
     (byte_at(part, at) + 256 * byte_at(part, at + 1)) as usize
 }
 
-fn u32_at(part: &[u8], at: usize) -> usize
+pub(crate) fn u32_at(part: &[u8], at: usize) -> usize
     requires { ⌜ at + 4 ≤ length (now part) ⌝ }
     ensures { λ r. ⌜ (r ≡ numberAt (now (part .entry)) at 4) × (r < 2 ^ 32) ⌝ }
 {

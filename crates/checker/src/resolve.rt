@@ -4,7 +4,7 @@ use crate::marks;
 use crate::step;
 use judgement::Finding;
 ghost use mathlib.Core.Path.{_≡_};
-ghost use mathlib.Core.Bool.{true, cond, _&&_, _||_};
+ghost use mathlib.Core.Bool.{true, not, cond, _&&_, _||_};
 ghost use Prim.Native.Nat.{_+_, _*_, _^_, _≤_, _<_};
 ghost use lib.Dec.{eqb, leb};
 ghost use lib.ListN.{length};
@@ -14,31 +14,35 @@ ghost use Rattle.judgement.specs.Literals.{count, code, holds};
 ghost use Rattle.judgement.specs.Step.{bound};
 ghost use Rattle.judgement.specs.Kinds.{isResolvent, lesserBound, resolutionFinding};
 ghost use Rattle.judgement.specs.Facts.{LiteralList};
-ghost use Rattle.checker.specs.Marks.{markAt, Marked, withMarks, Stale};
+ghost use Rattle.checker.specs.Marks.{markAt, Marked, withMarks, tally, Stale};
 ghost use Rattle.checker.specs.Resolve.{Forms};
 
-// Of a premise: whether each of its literals but the pivot's is marked, and whether it has the pivot's.
+// Of a premise: whether each of its literals but the pivot's is marked, whether it has the pivot's, and how many of the others had
+// the mark t.
 struct Premise {
     covered: bool,
     pivot: bool,
+    fresh: usize,
 }
 
 // Looks for the literals of a premise among those with a mark from t on, and marks them. The literal `out` may be there
 // too, and is not marked in the end.
 fn check_premise(marks: &mut [u32; 2050], part: &[u8], out: usize, t: u32) -> Premise
-    requires { ⌜ (length (now marks) ≡ 2050) × LiteralList 1024 (now part) × (out < 2050) × (t + 1 < 2 ^ 32) ⌝ }
+    requires { ⌜ (length (now marks) ≡ 2050) × LiteralList 1024 (now part) × (out < 2050) × (t + 2 < 2 ^ 32) ⌝ }
     ensures size { λ _. ⌜ length (now (marks .exit)) ≡ 2050 ⌝ }
     ensures covered { λ r. ⌜ r .covered ≡ allOf (λ i. eqb (code (now (part .entry)) i) out || leb t (markAt (now (marks .entry)) (code (now (part .entry)) i))) (count (now (part .entry))) ⌝ }
     ensures pivot { λ r. ⌜ r .pivot ≡ holds (now (part .entry)) out ⌝ }
+    ensures fresh { λ r. ⌜ (r .fresh ≡ tally (λ c. not (eqb out c) && eqb (markAt (now (marks .entry)) c) t) (now (part .entry))) × (r .fresh ≤ count (now (part .entry))) ⌝ }
     ensures each { λ _. ⌜ Marked (now (marks .exit)) (λ c. cond (eqb out c) 0 (withMarks (now (part .entry)) (t + 1) (now (marks .entry)) c)) ⌝ }
 {
-    marks[out] = t;
-    let covered = marks::check_off(marks, part, t);
-    let pivot = marks[out] != t;
+    marks[out] = t + 2;
+    let checked = marks::check_off(marks, part, t);
+    let pivot = marks[out] != t + 2;
     marks[out] = 0;
     Premise {
-        covered: covered,
+        covered: checked.found,
         pivot: pivot,
+        fresh: checked.fresh,
     }
 }
 
@@ -48,9 +52,10 @@ struct Resolution {
     resolvent: bool,
 }
 
-// A list in form has no variable both ways, so that is not tested.
+// As many literals as the step has must lose the mark t: then each of them is one of a premise. A list in form has no variable both
+// ways, so that is not tested.
 fn resolve(marks: &mut [u32; 2050], a: &[u8], b: &[u8], p: usize, d: &[u8], t: u32) -> Resolution
-    requires { ⌜ Stale 2050 (now marks) t × LiteralList 1024 (now a) × LiteralList 1024 (now b) × LiteralList 1024 (now d) × (p ≤ 1024) × (t + 1 < 2 ^ 32) ⌝ }
+    requires { ⌜ Stale 2050 (now marks) t × LiteralList 1024 (now a) × LiteralList 1024 (now b) × LiteralList 1024 (now d) × (p ≤ 1024) × (t + 2 < 2 ^ 32) ⌝ }
     ensures stale { λ _. ⌜ Stale 2050 (now (marks .exit)) (t + 2) ⌝ }
     ensures pivot { λ r. ⌜ r .pivot ≡ holds (now (a .entry)) (positive p) && holds (now (b .entry)) (negative p) ⌝ }
     ensures resolvent { λ r. ⌜ (r .pivot ≡ true → r .resolvent ≡ isResolvent (now (a .entry)) (now (b .entry)) p (now (d .entry))) ⌝ }
@@ -58,7 +63,7 @@ fn resolve(marks: &mut [u32; 2050], a: &[u8], b: &[u8], p: usize, d: &[u8], t: u
     marks::mark(marks, d, t);
     let x = check_premise(marks, a, 2 * p, t);
     let y = check_premise(marks, b, 2 * p + 1, t);
-    let found = marks::is_marked(marks, d, t + 1);
+    let found = x.fresh + y.fresh == d.len() / 2;
     let covered = marks::both(x.covered, y.covered);
     Resolution {
         pivot: marks::both(x.pivot, y.pivot),

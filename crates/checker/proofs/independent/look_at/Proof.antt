@@ -11,6 +11,7 @@ use Rattle.judgement.specs.Literals.{count}
 use Rattle.judgement.specs.Demands.{IsBytes}
 use Rattle.judgement.proofs.Scan.{clash}
 use Rattle.checker.specs.Marks.{Stale, IndependentMarks}
+use Rattle.checker.proofs.Cited.{priced-next}
 use Rattle.checker.proofs.Conditions.{usedTo, Looked, looked-start, looked-stop, looked-more, looked-all, looked-least, looked-marked}
 use Rattle.checker.proofs.independent.look_at.Statement.{statement}
 use Rattle.checker.proofs.independent.look_at.Tie as tie
@@ -29,7 +30,7 @@ loop-holds c =
     (omega arith, a .pre .0, λ D used m. looked-start m)
 
 code-at-requires : tie.Need-code-at-requires Inv-loop μ-loop
-code-at-requires c κs = (omega arith, c .before .before .before .before .pre .1)
+code-at-requires c κs = (omega arith, c .before .before .before .before .pre .1 .list)
 
 meet-requires : tie.Need-meet-requires Inv-loop μ-loop
 meet-requires c κs =
@@ -48,13 +49,17 @@ returns c =
         λ D used m.
             let so-far = l .inv .2 D used m in
             let told = met .1 .0 D (usedTo used C (l .i)) (so-far .marked) in
-            looked-stop so-far (a .pre .1) (omega arith) e (told .0) (c .if1 .taken),
+            looked-stop so-far (a .pre .1 .list) (omega arith) e (told .0) (c .if1 .taken),
         (λ D used m f. absurd (clash f refl), λ D used m f. absurd (clash f refl)),
       ),
     )
 
 free-cost-requires : tie.Need-free-cost-requires Inv-loop μ-loop
-free-cost-requires c κs = c .before .before .before .before .code-at .ensures .1
+free-cost-requires c κs =
+    let l = c .before .before .before .before .before .before .loop in
+    let a = c .before .before .before .before .before .before .before .before .before in
+    let e = c .before .before .before .before .code-at .ensures .0 in
+    priced-next (a .args .s .now) (a .args .clause .now) (l .i) (a .pre .1) (omega arith) e
 
 lesser-requires : tie.Need-lesser-requires Inv-loop μ-loop
 lesser-requires c κs = tt
@@ -80,7 +85,7 @@ loop-again c =
           let so-far = l .inv .2 D used m in
           let told = met .1 .0 D (usedTo used C (l .i)) (so-far .marked) in
           let marked = met .1 .1 D (usedTo used C (l .i)) (so-far .marked) (not-false _ f) in
-          looked-more so-far (a .pre .1) (omega arith) e after (told .0) (told .1) f marked (c .before .free-cost .ensures) (c .lesser .ensures),
+          looked-more so-far (a .pre .1 .list) (omega arith) e after (told .0) (told .1) f marked (c .before .free-cost .ensures) (c .lesser .ensures),
     )
 
 returns-2 : tie.Need-returns-2 Inv-loop μ-loop
