@@ -80,19 +80,22 @@ impl Marks {
         &mut self.marks[code % SIZE]
     }
 
-    /// Whether `out` is in the list, and every other literal of it has a mark from `least` on; then they have the next one. There
-    /// is no early exit and no branch at `out`: a fault ends it all, and where `out` stands cannot be guessed.
-    fn check_off(&mut self, list: Codes, out: usize, least: u32) -> bool {
-        *self.mark(out) = least;
+    /// How many literals of the list have the mark `least`, or nothing where `out` is not in it or another literal has less;
+    /// then they have the next one. There is no early exit and no branch at `out`: a fault ends it all, and where `out`
+    /// stands cannot be guessed.
+    fn check_off(&mut self, list: Codes, out: usize, least: u32) -> Option<usize> {
+        *self.mark(out) = least + 2;
         let mut marked = true;
+        let mut fresh = 0;
         for &stored in list {
             let mark = self.mark(code(stored));
             marked &= *mark >= least;
+            fresh += usize::from(*mark == least);
             *mark = least + 1;
         }
-        let met = *self.mark(out) > least;
+        let met = *self.mark(out) != least + 2;
         *self.mark(out) = 0;
-        marked && met
+        (marked && met).then_some(fresh)
     }
 }
 
@@ -114,13 +117,14 @@ impl Resolve for Marks {
         for &stored in d {
             *self.mark(code(stored)) = least;
         }
-        let covered =
-            self.check_off(a, 2 * pivot, least) && self.check_off(b, 2 * pivot + 1, least);
-        let mut met = true;
-        for &stored in d {
-            met &= *self.mark(code(stored)) == least + 1;
-        }
-        covered && met
+        let Some(from_a) = self.check_off(a, 2 * pivot, least) else {
+            return false;
+        };
+        let Some(from_b) = self.check_off(b, 2 * pivot + 1, least) else {
+            return false;
+        };
+        // As many as d has lost their first mark, so each of them is a premise's.
+        from_a + from_b == d.len()
     }
 }
 
