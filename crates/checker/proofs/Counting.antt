@@ -1,10 +1,9 @@
 -- How many codes, from 1 to n, pass a test; and what counting along a list of literals comes to.
 -- Assumes nothing.
-use Prim.Native.Nat.{ℕ, zero, suc, _+_, _≤_, _<_}
+use Prim.Native.Nat.{ℕ, zero, suc, _+_, _≤_}
 use mathlib.Core.Path.{_≡_, refl, sym, _∙_}
 use mathlib.Core.Bool.{Bool, true, false, cond, _&&_, _||_}
 use mathlib.Core.List.{List}
-use mathlib.Core.Logic.{inl, inr}
 use native.Mathlib.Numerals.{add-one}
 use native.Mathlib.Omega.{arith}
 use native.Mathlib.Decide.{ℕ-discrete}
@@ -13,7 +12,7 @@ use lib.Dec.{eqb}
 use Rattle.judgement.specs.Scan.{anyOf, sumOf}
 use Rattle.judgement.specs.Literals.{count, code, holds}
 use Rattle.judgement.specs.Facts.{Among, LiteralList}
-use Rattle.judgement.proofs.Scan.{clash, false-i, sum-same, sum-split}
+use Rattle.judgement.proofs.Scan.{clash, sum-same, sum-split}
 use Rattle.checker.proofs.Marking.{heldTo, fresh}
 
 abbrev pub one : Bool → ℕ

@@ -1,6 +1,6 @@
 -- Kind 4: what the marks tell, and refusals 16, 17 and 18 in the order in which they are tried.
 -- Assumes nothing.
-use Prim.Native.Nat.{ℕ, _+_, _*_, _≤_, _<_}
+use Prim.Native.Nat.{ℕ, _+_, _<_}
 use mathlib.Core.Path.{_≡_, refl, sym, _∙_}
 use mathlib.Core.Bool.{Bool, true, false, not, cond, _&&_, _||_, and-true}
 use mathlib.Core.List.{List}
@@ -29,7 +29,7 @@ use Rattle.checker.proofs.Counting.{one, size, counted, counted-all, si
 -- ---- a premise: `out` gets the mark t + 2, the literals are checked off, and `out` loses its mark
 
 -- the marks after a premise
-abbrev pub afterPremise : List ℕ → ℕ → ℕ → (ℕ → ℕ) → ℕ → ℕ
+abbrev afterPremise : List ℕ → ℕ → ℕ → (ℕ → ℕ) → ℕ → ℕ
 afterPremise part out t before c = cond (eqb out c) 0 (cond (holds part c) (t + 1) (before c))
 
 module _ (part before : List ℕ) (out t : ℕ) (h : out < length before) where
@@ -82,7 +82,7 @@ ofD D t before = withMarks D t before
 abbrev ofA : List ℕ → List ℕ → ℕ → ℕ → List ℕ → ℕ → ℕ
 ofA A D p t before = afterPremise A (positive p) t (ofD D t before)
 
-abbrev pub ofB : List ℕ → List ℕ → List ℕ → ℕ → ℕ → List ℕ → ℕ → ℕ
+abbrev ofB : List ℕ → List ℕ → List ℕ → ℕ → ℕ → List ℕ → ℕ → ℕ
 ofB A B D p t before = afterPremise B (negative p) t (ofA A D p t before)
 
 -- a list in form has no variable both ways
@@ -104,7 +104,7 @@ module _ (A B D before : List ℕ) (p t : ℕ) (stale : Stale 2050 before t) whe
       go true = le-leb t t (omega arith)
       go false = lt-leb t (markAt before c) (stale .below c)
 
-  pub covered-a : allOf (λ i. eqb (code A i) (positive p) || leb t (ofD D t before (code A i))) (count A) ≡ coveredBut A (positive p) D
+  covered-a : allOf (λ i. eqb (code A i) (positive p) || leb t (ofD D t before (code A i))) (count A) ≡ coveredBut A (positive p) D
   unfolding coveredBut
   covered-a =
       all-same (λ i. eqb (code A i) (positive p) || leb t (ofD D t before (code A i))) (λ i. eqb (code A i) (positive p) || holds D (code A i))
@@ -126,7 +126,7 @@ module _ (A B D before : List ℕ) (p t : ℕ) (stale : Stale 2050 before t) whe
         go true h = rw (in-d c h n) (le-leb t (t + 1) (omega arith))
         go false h = told c
 
-    pub covered-b : allOf (λ i. eqb (code B i) (negative p) || leb t (ofA A D p t before (code B i))) (count B) ≡ coveredBut B (negative p) D
+    covered-b : allOf (λ i. eqb (code B i) (negative p) || leb t (ofA A D p t before (code B i))) (count B) ≡ coveredBut B (negative p) D
     unfolding coveredBut
     covered-b =
         all-same (λ i. eqb (code B i) (negative p) || leb t (ofA A D p t before (code B i))) (λ i. eqb (code B i) (negative p) || holds D (code B i))
@@ -199,7 +199,7 @@ module _ (A B D before : List ℕ) (p t : ℕ) (stale : Stale 2050 before t) whe
             ) (sum (holds D c) (holds A c) (holds B c))
 
     -- so they are as many as the step's literals exactly when all of these are in the resolvent
-    pub all-lost : LiteralList 1024 D
+    all-lost : LiteralList 1024 D
         → eqb (tally (λ c. not (eqb (positive p) c) && eqb (ofD D t before c) t) A + tally (λ c. not (eqb (negative p) c) && eqb (ofA A D p t before c) t) B)
         (count D)
         ≡ allOf (λ i. inResolvent A B p (code D i)) (count D)
@@ -248,7 +248,7 @@ module _ (A B D before : List ℕ) (p t : ℕ) (stale : Stale 2050 before t) whe
             go c false q = refl
 
   -- every mark is t + 1 at most
-  pub after-stale : {marks : List ℕ} → length marks ≡ 2050 → Marked marks (ofB A B D p t before) → Stale 2050 marks (t + 2)
+  after-stale : {marks : List ℕ} → length marks ≡ 2050 → Marked marks (ofB A B D p t before) → Stale 2050 marks (t + 2)
   after-stale {marks} size m = record { size = size; below = λ c. rw (m c) (go c (eqb (negative p) c) (holds B c) (eqb (positive p) c) (holds A c) (holds D c)) }
     where
       go : (c : ℕ) (x y z u v : Bool) → cond x 0 (cond y (t + 1) (cond z 0 (cond u (t + 1) (cond v t (markAt before c))))) < t + 2
