@@ -111,6 +111,28 @@ fn on_longer_records() {
     }
 }
 
+/// A fault after some hundred steps, which have left their marks.
+#[test]
+fn on_longer_records_with_one_byte_changed() {
+    const CHANGES: usize = 2_000;
+    let mut met = [0usize; 20];
+    for (seed, mix) in [(4, Mix::Mixed), (5, Mix::Resolution)] {
+        let Sample { sheet, record, .. } = samples::long(seed, 50_000, mix);
+        let mut changed = record.clone();
+        for i in 0..CHANGES {
+            // All over the record, and each bit in turn.
+            let place = i * 7_919 % record.len();
+            changed[place] ^= 1 << (i % 8);
+            met[same(&sheet, &changed, "long, one bit changed") as usize] += 1;
+            changed[place] = record[place];
+        }
+    }
+    println!("{CHANGES} changes of each record, by number {met:?}");
+    for number in [7, 8, 9, 12, 13, 14, 15, 16, 17, 18] {
+        assert!(met[number] > 0, "no change met {number}");
+    }
+}
+
 #[test]
 fn on_empty_files() {
     same(&[], &[], "two empty files");
