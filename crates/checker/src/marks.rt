@@ -21,7 +21,7 @@ pub(crate) fn both(x: bool, y: bool) -> bool
 }
 
 // The code of literal i + 1 of a list in form, which is below 2,050.
-pub(crate) fn code_at(part: &[u8], i: usize) -> usize
+fn code_at(part: &[u8], i: usize) -> usize
     requires { ⌜ (i < count (now part)) × LiteralList 1024 (now part) ⌝ }
     ensures { λ r. ⌜ (r ≡ code (now (part .entry)) (i + 1)) × (r < 2050) ⌝ }
 {
@@ -43,7 +43,7 @@ pub(crate) fn mark(marks: &mut [u32; 2050], part: &[u8], t: u32)
     }
 }
 
-pub(crate) fn one_if(x: bool) -> usize
+fn one_if(x: bool) -> usize
     ensures { λ r. ⌜ (r ≡ cond x 1 0) × (r ≤ 1) ⌝ }
 {
     if x {
