@@ -24,8 +24,9 @@ pub fn stats(record: &Record) -> Stats {
     let mut cited = vec![[0; 2]; count + 1];
     for number in 1..=count {
         let step = record.steps.body(number).and_then(steps::read);
-        let kind = step.as_ref().map_or(4, |step| kind_of(&step.reason));
-        stats.kinds[kind] += 1;
+        // The last place is for bodies that are no step.
+        let kind = step.as_ref().map_or(5, |step| step.reason.kind());
+        stats.kinds[usize::from(kind) - 1] += 1;
         if let Some(step) = step {
             stats.literals += step.literals.len();
             cited[number] = cited_by(&step.reason, number);
@@ -36,15 +37,6 @@ pub fn stats(record: &Record) -> Stats {
     stats.depth = depths[count];
     stats.needed = needed(&cited);
     stats
-}
-
-fn kind_of(reason: &Reason) -> usize {
-    match reason {
-        Reason::Copy { .. } => 0,
-        Reason::Cost => 1,
-        Reason::Independent { .. } => 2,
-        Reason::Resolution { .. } => 3,
-    }
 }
 
 /// The earlier steps that a step cites.

@@ -145,6 +145,16 @@ impl<'a> Certificate<'a> {
 }
 
 impl Reason {
+    /// The number of the kind, as it is stored.
+    pub fn kind(&self) -> u8 {
+        match self {
+            Reason::Copy { .. } => 1,
+            Reason::Cost => 2,
+            Reason::Independent { .. } => 3,
+            Reason::Resolution { .. } => 4,
+        }
+    }
+
     /// The same reason after the steps that it cites have moved.
     pub fn renumbered(self, moved: impl Fn(u32) -> u32) -> Reason {
         match self {

@@ -98,21 +98,12 @@ pub fn assignment_bytes(assignment: &[bool]) -> Vec<u8> {
 pub fn step_body(step: &Step) -> Vec<u8> {
     let tail = tail_bytes(&step.reason);
     let mut body = Vec::with_capacity(12 + 2 * step.literals.len() + tail.len());
-    body.extend_from_slice(&[kind(&step.reason), 0]);
+    body.extend_from_slice(&[step.reason.kind(), 0]);
     body.extend_from_slice(&(step.literals.len() as u16).to_le_bytes());
     body.extend_from_slice(&step.bound.to_le_bytes());
     body.extend(literal_bytes(&step.literals));
     body.extend(tail);
     body
-}
-
-fn kind(reason: &Reason) -> u8 {
-    match reason {
-        Reason::Copy { .. } => 1,
-        Reason::Cost => 2,
-        Reason::Independent { .. } => 3,
-        Reason::Resolution { .. } => 4,
-    }
 }
 
 fn tail_bytes(reason: &Reason) -> Vec<u8> {
