@@ -14,14 +14,14 @@ use Rattle.judgement.specs.Record.{assigned, assignmentSize}
 use Rattle.judgement.specs.Writer.{assignmentOf, recordOf}
 use Rattle.judgement.specs.Facts.{ValidSheet}
 use Rattle.judgement.specs.Demands.{IsBytes, Accepted, Sound, SomeSteps, Complete}
-use Rattle.judgement.proofs.Accepted.{exactly-when}
-use Rattle.judgement.proofs.Cost.{cost-below-none}
-use Rattle.judgement.proofs.Sound.{bound-holds, sound-facts}
-use Rattle.judgement.proofs.Typed.{bodiesOf}
-use Rattle.judgement.proofs.Tree.{tree}
-use Rattle.judgement.proofs.Packed.{packed-length}
-use Rattle.judgement.proofs.Written.{record-claim, record-packed, record-clear, written-bytes, written-acceptable}
-use Rattle.judgement.proofs.Least.{Agree, model-local, cost-local, least-exists}
+use Rattle.judgement.proofs.Facts.Accepted.{exactly-when}
+use Rattle.judgement.proofs.Laws.Cost.{cost-below-none}
+use Rattle.judgement.proofs.Sound.Claim.{bound-holds, sound-facts}
+use Rattle.judgement.proofs.Complete.Typed.{bodiesOf}
+use Rattle.judgement.proofs.Complete.Tree.{tree}
+use Rattle.judgement.proofs.Complete.Packed.{packed-length}
+use Rattle.judgement.proofs.Complete.Written.{record-claim, record-packed, record-clear, written-bytes, written-acceptable}
+use Rattle.judgement.proofs.Complete.Least.{Agree, model-local, cost-local, least-exists}
 
 pub sound : (s r : List ℕ) → IsBytes s → Sound s r
 sound s r bytes = record {

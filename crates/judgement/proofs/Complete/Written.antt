@@ -17,12 +17,12 @@ use Rattle.judgement.specs.Step.{cited, pivotOf}
 use Rattle.judgement.specs.Writer.{bytesOf, pairsOf, joined, fileOf, assignmentOf, recordOf}
 use Rattle.judgement.specs.Facts.{Among, PairRule, ValidSheet, StepLayout, Resolution, Inference, copies, costs, resolution, Closes, Acceptable}
 use Rattle.judgement.specs.Demands.{IsBytes}
-use Rattle.judgement.proofs.Typed.{Typed, copyStep, costStep, resolveStep, codesOf, boundOf, bodyOf, bodiesOf, nth, Ascending, Obeys, Derivation}
-use Rattle.judgement.proofs.Bytes.{length-bytes, number-of, drop-past, nil-bytes}
-use Rattle.judgement.proofs.Stored.{AllFit, ascending-fits}
-use Rattle.judgement.proofs.Tables.{length-file, file-body, file-pairs}
-use Rattle.judgement.proofs.Packed.{storedBit, packed-length, packed-bit, clear-bit}
-use Rattle.judgement.proofs.Bodies.{none-fits, kindNumber, tailOf, body-short, body-bytes, Stores, stores-body, says-in, says-layout, stores-copies, stores-costs, resolution-x, resolution-y, resolution-pivot, resolution-size, States, resolves-bodies}
+use Rattle.judgement.proofs.Complete.Typed.{Typed, copyStep, costStep, resolveStep, codesOf, boundOf, bodyOf, bodiesOf, nth, Ascending, Obeys, Derivation}
+use Rattle.judgement.proofs.Complete.Bytes.{length-bytes, number-of, drop-past, nil-bytes}
+use Rattle.judgement.proofs.Complete.Stored.{AllFit, ascending-fits}
+use Rattle.judgement.proofs.Complete.Tables.{length-file, file-body, file-pairs}
+use Rattle.judgement.proofs.Complete.Packed.{storedBit, packed-length, packed-bit, clear-bit}
+use Rattle.judgement.proofs.Complete.Bodies.{none-fits, kindNumber, tailOf, body-short, body-bytes, Stores, stores-body, says-in, says-layout, stores-copies, stores-costs, resolution-x, resolution-y, resolution-pivot, resolution-size, States, resolves-bodies}
 
 -- ---- the record of any bodies
 

@@ -18,12 +18,12 @@ use Rattle.judgement.specs.Record.{claim, assigned, satisfied}
 use Rattle.judgement.specs.Writer.{bytesOf, numbersOf, pairsOf, joined, fileOf, sheetOf, stepOf, recordOf}
 use Rattle.judgement.specs.Computed.{right}
 use Rattle.judgement.specs.Demands.{IsBytes, Checker, SoundFor, CompleteFor, Accepted}
-use Rattle.judgement.proofs.Scan.{and-l, and-r, all-each}
-use Rattle.judgement.proofs.Models.{satisfied-satisfies}
-use Rattle.judgement.proofs.Accepted.{exactly-when}
-use Rattle.judgement.proofs.Written.{record-claim}
+use Rattle.judgement.proofs.Laws.Scan.{and-l, and-r, all-each}
+use Rattle.judgement.proofs.Laws.Models.{satisfied-satisfies}
+use Rattle.judgement.proofs.Facts.Accepted.{exactly-when}
+use Rattle.judgement.proofs.Complete.Written.{record-claim}
 use Rattle.judgement.proofs.Promised.{sound}
-use Rattle.judgement.proofs.Cases.{sheetA, recordA, sheetB1, recordB1, costStep}
+use Rattle.judgement.proofs.Cases.Starred.{sheetA, recordA, sheetB1, recordB1, costStep}
 
 -- ---- a plan that the judgement accepts
 

@@ -1,0 +1,12 @@
+-- What is true can be accepted: the decision tree, and its steps written as a record.
+pub mod Typed
+pub mod Codes
+pub mod Paths
+pub mod Tree
+pub mod Bytes
+pub mod Stored
+pub mod Tables
+pub mod Packed
+pub mod Bodies
+pub mod Written
+pub mod Least

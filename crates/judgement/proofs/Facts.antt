@@ -1,0 +1,8 @@
+-- Facts and tests agree: accepted exactly when.
+pub mod Layouts
+pub mod FirstByte
+pub mod Copy
+pub mod IndependentSet
+pub mod Resolvent
+pub mod Inferences
+pub mod Accepted

@@ -1,0 +1,8 @@
+-- Laws of the definitions that every other proof cites.
+pub mod Scan
+pub mod Findings
+pub mod Membership
+pub mod Models
+pub mod Lists
+pub mod Truth
+pub mod Cost
