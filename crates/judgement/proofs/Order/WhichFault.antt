@@ -12,7 +12,9 @@ use Rattle.judgement.specs.declared.Finding.the-variants.{Fine, Fault}
 use Rattle.judgement.specs.Finding.{isFine, _then_, overAll}
 use Rattle.judgement.specs.Pairs.{pairFinding, pairsFinding}
 use Rattle.judgement.specs.Sheet.{clauses, clause, sheetFinding, sheetPairs, clauseForm}
-use Rattle.judgement.specs.Step.{Kind, copy, costs, independent, resolution, unknown, kindOf, literals, cited}
+use Rattle.judgement.specs.declared.Kind.{Kind}
+use Rattle.judgement.specs.declared.Kind.the-variants.{Copy, Cost, IndependentSet, Resolvent, Unknown}
+use Rattle.judgement.specs.Step.{kindOf, literals, cited}
 use Rattle.judgement.specs.Record.{claimsNone, steps, step, recordPairs, brokenClause, claimedCost}
 use Rattle.judgement.specs.Kinds.{dependsOn, dependence, resolutionFinding, kindFinding}
 use Rattle.judgement.specs.Judgement.{assignmentFinding, stepFinding, finding, answerOf, judgement}
@@ -54,12 +56,12 @@ first-resolution x y b k = rw then-fine
 
 first-kind : (K : Kind) (s r : List ℕ) (k : ℕ) → first (kindTests K s r k) ≡ kindFinding K s r k
 unfolding kindTests kindFinding dependence
-first-kind copy s r k = then-fine _
-first-kind costs s r k = then-fine _
-first-kind independent s r k =
+first-kind Copy s r k = then-fine _
+first-kind Cost s r k = then-fine _
+first-kind IndependentSet s r k =
     rw (first-append, first-each _ _ _ (λ j. first-dependence s (step s r k) k j (literals (step s r k)) (clause s (cited (step s r k) j))), then-fine)
-first-kind resolution s r k = first-resolution (step s r (cited (step s r k) 1)) (step s r (cited (step s r k) 2)) (step s r k) k
-first-kind unknown s r k = refl
+first-kind Resolvent s r k = first-resolution (step s r (cited (step s r k) 1)) (step s r (cited (step s r k) 2)) (step s r k) k
+first-kind Unknown s r k = refl
 
 first-step : (s r : List ℕ) (k : ℕ) → first (stepTests s r k) ≡ stepFinding s r k
 unfolding stepTests stepFinding
