@@ -118,7 +118,7 @@ answer-fault : (s r : List ℕ) (f : Finding) (N P : ℕ) → N ≢ 0 → answer
 answer-fault s r Fine N P n a b = absurd (n (sym a))
 answer-fault s r (Fault number place) N P n a b = rw (a, b)
 
-pub which-fault : (s r : List ℕ) → WhichFault s r
+pub which-fault : (s r : List ℕ) → WhichFault s r (judgement s r)
 unfolding judgement
 which-fault s r N P n = (
   λ (a, b). first-found (tests s r) N P (in-order s r ∙ answer-fault s r (finding s r) N P n a b),
