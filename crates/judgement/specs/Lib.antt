@@ -12,5 +12,6 @@ pub mod Judgement
 pub mod Writer
 pub mod Order
 pub mod Facts
+pub mod Places
 pub mod Demands
 pub mod Computed
