@@ -19,7 +19,7 @@ use Rattle.judgement.proofs.Laws.Cost.{cost-below-none}
 use Rattle.judgement.proofs.Sound.Claim.{bound-holds, sound-facts}
 use Rattle.judgement.proofs.Complete.Typed.{bodiesOf}
 use Rattle.judgement.proofs.Complete.Tree.{tree}
-use Rattle.judgement.proofs.Complete.Packed.{packed-length}
+use Rattle.judgement.proofs.Complete.Packed.{packed-length, packed-bytes, clear-bytes}
 use Rattle.judgement.proofs.Complete.Written.{record-claim, record-packed, record-clear, written-bytes, written-acceptable}
 use Rattle.judgement.proofs.Complete.Least.{Agree, model-local, cost-local, least-exists}
 
@@ -65,7 +65,7 @@ module _ (s : List ℕ) (bytes : IsBytes s) (valid : ValidSheet s) (few : variab
       let agree = stored-agrees c (variables s) α (bodiesOf ts) in
       let floor = reaches c c-small (λ β mb. let h = least .below β mb in omega (arith, h, e)) in (
         bodiesOf ts,
-        written-bytes ts,
+        written-bytes c (assignmentOf (variables s) α) ts (packed-bytes (variables s) α),
         exactly-when s (recordOf c (assignmentOf (variables s) α) (bodiesOf ts)) .1
             (written-acceptable s valid few ts derivation c c-small (assignmentOf (variables s) α) (packed-length (variables s) α)
             (stored-spare c (variables s) α (bodiesOf ts))
@@ -89,7 +89,7 @@ module _ (s : List ℕ) (bytes : IsBytes s) (valid : ValidSheet s) (few : variab
       let clear : (v : ℕ) → 1 ≤ v → v ≤ 8 * w → assigned (recordOf none (replicate w 0) (bodiesOf ts)) v ≡ false = record-clear none w (bodiesOf ts) in
       let floor = reaches none (le-refl none) (λ β mb. absurd (no-model β mb)) in (
         bodiesOf ts,
-        written-bytes ts,
+        written-bytes none (replicate w 0) ts (clear-bytes w),
         exactly-when s (recordOf none (replicate w 0) (bodiesOf ts)) .1
             (written-acceptable s valid few ts derivation none (le-refl none) (replicate w 0) (length-replicate w 0)
             (λ v l h. clear v (omega arith) h)

@@ -21,7 +21,8 @@ use Rattle.judgement.specs.Demands.{IsBytes, Checker, SoundFor, Complete
 use Rattle.judgement.proofs.Laws.Scan.{and-l, and-r, all-each}
 use Rattle.judgement.proofs.Laws.Models.{satisfied-satisfies}
 use Rattle.judgement.proofs.Facts.Accepted.{exactly-when}
-use Rattle.judgement.proofs.Complete.Written.{record-claim}
+use Rattle.judgement.proofs.Complete.Packed.{packed-bytes}
+use Rattle.judgement.proofs.Complete.Written.{record-claim, written-bytes}
 use Rattle.judgement.proofs.Promised.{sound}
 use Rattle.judgement.proofs.Cases.Starred.{sheetA, recordA, sheetB1, recordB1, costStep}
 
@@ -94,7 +95,7 @@ pub accepts-all : (A : Checker) → ((s r : List ℕ) → A s r) → ((s : List 
 accepts-all A always complete =
     dearer-costs
     (complete sheetA .least (exactly-when sheetA recordA .0 (planA .accepted) .sheet) (planA .few) dearer dearer-model (claim recordA) (least sheetA recordA planA) .0
-    ([], (λ k i. omega arith), always sheetA _))
+    ([], written-bytes (cost (problemOf sheetA) dearer) _ [] (packed-bytes (variables sheetA) dearer), always sheetA _))
 
 other-sheet : sheetA ≡ sheetB1 → ⊥
 unfolding sheetA bytesOf numbersOf pairsOf joined fileOf sheetOf sheetB1

@@ -18,7 +18,7 @@ use Rattle.judgement.specs.Writer.{bytesOf, pairsOf, joined, fileOf, ass
 use Rattle.judgement.specs.Facts.{Among, PairRule, ValidSheet, StepLayout, Resolution, Inference, copies, costs, resolution, Closes, Acceptable}
 use Rattle.judgement.specs.Demands.{IsBytes}
 use Rattle.judgement.proofs.Complete.Typed.{Typed, copyStep, costStep, resolveStep, codesOf, boundOf, bodyOf, bodiesOf, nth, Ascending, Obeys, Derivation}
-use Rattle.judgement.proofs.Complete.Bytes.{length-bytes, number-of, drop-past, nil-bytes}
+use Rattle.judgement.proofs.Complete.Bytes.{length-bytes, number-of, drop-past, nil-bytes, bytes-are-bytes, append-bytes}
 use Rattle.judgement.proofs.Complete.Stored.{AllFit, ascending-fits}
 use Rattle.judgement.proofs.Complete.Tables.{length-file, file-body, file-pairs}
 use Rattle.judgement.proofs.Complete.Packed.{storedBit, packed-length, packed-bit, clear-bit}
@@ -82,6 +82,11 @@ module _ (c : ℕ) (bits : List ℕ) (bodies : List (List ℕ)) where
     unfolding recordOf
     record-pairs = rw length-before at (file-pairs before bodies before-fits)
 
+pairs-bytes : (start : ℕ) (bodies : List (List ℕ)) → IsBytes (pairsOf start bodies)
+unfolding pairsOf
+pairs-bytes start [] = nil-bytes
+pairs-bytes start (b ∷ bs) = search (append-bytes, bytes-are-bytes, pairs-bytes (start + length b) bs)
+
 -- the record of an assignment: a variable up to n reads as its value, and a spare bit is clear
 pub record-packed : (c n : ℕ) (α : Assignment) (bodies : List (List ℕ)) (v : ℕ) → 1 ≤ v → v ≤ 8 * assignmentSize n
     → assigned (recordOf c (assignmentOf n α) bodies) v ≡ (leb v n && α v)
@@ -105,10 +110,10 @@ body-at [] i h = absurd (omega arith)
 body-at (t ∷ ts) zero h = refl
 body-at (t ∷ ts) (suc i) h = body-at ts i (omega arith)
 
-pub written-bytes : (ts : List Typed) (k : ℕ) → IsBytes (getD (bodiesOf ts) k [])
-written-bytes [] k = nil-bytes
-written-bytes (t ∷ ts) zero = body-bytes t
-written-bytes (t ∷ ts) (suc k) = written-bytes ts k
+bodies-bytes : (ts : List Typed) → IsBytes (joined (bodiesOf ts))
+unfolding joined
+bodies-bytes [] = nil-bytes
+bodies-bytes (t ∷ ts) = append-bytes (bodyOf t) (joined (bodiesOf ts)) (body-bytes t) (bodies-bytes ts)
 
 bodies-short : (ts : List Typed) → ((i : ℕ) → i < length ts → length (codesOf (getD ts i (costStep [] 0))) ≤ 16)
     → length (joined (bodiesOf ts)) ≤ 54 * length ts
@@ -123,6 +128,10 @@ bodies-short (t ∷ ts) h =
 
 abbrev pub written : ℕ → List ℕ → List Typed → List ℕ
 written c bits ts = recordOf c bits (bodiesOf ts)
+
+pub written-bytes : (c : ℕ) (bits : List ℕ) (ts : List Typed) → IsBytes bits → IsBytes (recordOf c bits (bodiesOf ts))
+unfolding recordOf fileOf
+written-bytes c bits ts p = search (append-bytes, bytes-are-bytes, pairs-bytes, bodies-bytes)
 
 -- of the claim c over assignment bytes of the right length
 module _ (s : List ℕ) (valid : ValidSheet s) (ts : List Typed) (d : Derivation s ts) (c : ℕ) (small : c ≤ none) (bits : List ℕ)
