@@ -12,6 +12,6 @@ pub mod Judgement
 pub mod Writer
 pub mod Order
 pub mod Facts
-pub mod Places
+pub mod Refusals
 pub mod Demands
 pub mod Computed

@@ -1,4 +1,4 @@
--- Where a refusal's place lies: the last column of document 01's table of refusals.
+-- What each refusal is told of, and so where its place lies: the last column of document 01's table of refusals.
 -- Assumes nothing.
 use Prim.Native.Nat.{ℕ, _≤_}
 use mathlib.Core.Path.{_≡_}
@@ -9,28 +9,28 @@ use Rattle.judgement.specs.Sheet.{clauses}
 use Rattle.judgement.specs.Record.{steps}
 use Rattle.judgement.specs.Facts.{Among}
 
--- what a place can be; nowhere is one that no refusal has
-pub data Place : Type 0 where
-  whole : Place
-  aClause : Place
-  clauseOrWhole : Place
-  aStep : Place
-  lastStep : Place
-  nowhere : Place
+-- what a refusal can be told of
+pub data Subject : Type 0 where
+  whole : Subject
+  aClause : Subject
+  clauseOrWhole : Subject
+  aStep : Subject
+  lastStep : Subject
+  nothing : Subject
 
--- the place p is one: 0; a clause; a clause, or 0 if m is 0; a step; t
-abbrev pub PlaceIs : Place → List ℕ → List ℕ → ℕ → Type 0
-PlaceIs whole s r p = p ≡ 0
-PlaceIs aClause s r p = Among (clauses s) p
-PlaceIs clauseOrWhole s r p = Among (clauses s) p ⊎ ((clauses s ≡ 0) × (p ≡ 0))
-PlaceIs aStep s r p = Among (steps r) p
-PlaceIs lastStep s r p = (p ≡ steps r) × (1 ≤ p)
-PlaceIs nowhere s r p = ⊥
+-- p is the place of it: 0; a clause; a clause, or 0 if m is 0; a step; t
+abbrev pub IsPlaceOf : Subject → List ℕ → List ℕ → ℕ → Type 0
+IsPlaceOf whole s r p = p ≡ 0
+IsPlaceOf aClause s r p = Among (clauses s) p
+IsPlaceOf clauseOrWhole s r p = Among (clauses s) p ⊎ ((clauses s ≡ 0) × (p ≡ 0))
+IsPlaceOf aStep s r p = Among (steps r) p
+IsPlaceOf lastStep s r p = (p ≡ steps r) × (1 ≤ p)
+IsPlaceOf nothing s r p = ⊥
 
 -- by number, from 0, which no refusal has
-abbrev pub places : List Place
-places =
-    nowhere
+abbrev pub subjects : List Subject
+subjects =
+    nothing
     ∷ whole  -- 1, oversize
     ∷ whole  -- 2, sheet head
     ∷ clauseOrWhole  -- 3, sheet pairs
@@ -54,4 +54,4 @@ places =
 
 -- refusal `number` may be told at p
 abbrev pub Lies : List ℕ → List ℕ → ℕ → ℕ → Type 0
-Lies s r number p = PlaceIs (getD places number nowhere) s r p
+Lies s r number p = IsPlaceOf (getD subjects number nothing) s r p
