@@ -4,5 +4,6 @@ pub mod Findings
 pub mod Membership
 pub mod Models
 pub mod Lists
+pub mod Buffer
 pub mod Truth
 pub mod Cost

@@ -2,6 +2,7 @@ pub mod Scan
 pub mod Meaning
 pub mod Finding
 pub mod Number
+pub mod Buffer
 pub mod Pairs
 pub mod Literals
 pub mod Sheet

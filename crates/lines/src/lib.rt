@@ -1,63 +1,76 @@
-// The line that is printed for an answer, put at the start of a lent buffer.
+// The line that is printed for an answer, put at the beginning of a lent buffer. What stands behind it stays.
 use judgement::Answer;
 ghost use mathlib.Core.Path.{_≡_};
 ghost use mathlib.Core.List.{_++_};
 ghost use Prim.Native.Nat.{_+_, _≤_};
 ghost use lib.ListN.{length, take};
 ghost use Rattle.io.specs.Counts.{Counts};
+ghost use Rattle.judgement.specs.Buffer.{over};
 ghost use Rattle.lines.specs.Lines.{decimalOf, leastLine, noneLine, refusedLine, lineOf};
 
-// Puts `word` after the first `at` bytes, and answers where it ends.
-fn put(out: &mut [u8], at: usize, word: &[u8]) -> usize
+// A buffer of this many bytes holds every line.
+pub const LINE: usize = 96;
+
+// Puts `word` after the first `at` bytes.
+fn put(out: &mut [u8], at: usize, word: &[u8])
     requires { ⌜ at + length (now word) ≤ length (now out) ⌝ }
-    ensures { λ r. ⌜ (r ≡ at + length (now (word .entry))) × (take r (now (out .exit)) ≡ take at (now (out .entry)) ++ now (word .entry)) ⌝ }
+    ensures bytes { λ _. ⌜ now (out .exit) ≡ over (take at (now (out .entry)) ++ now (word .entry)) (now (out .entry)) ⌝ }
 {
     let mut i = 0;
     while i < word.len() {
         out[at + i] = word[i];
         i += 1;
     }
-    at + i
 }
 
-// Puts `word` and then n after the first `at` bytes, and answers where they end.
+// Puts `word` and then n, which has 20 digits at most, after the first `at` bytes, and answers where they end.
 fn put_field(out: &mut [u8], at: usize, word: &[u8], n: u64) -> usize
     requires { ⌜ at + length (now word) + 20 ≤ length (now out) ⌝ }
-    ensures { λ r. ⌜ (r ≤ at + length (now (word .entry)) + 20) × (take r (now (out .exit)) ≡ take at (now (out .entry)) ++ now (word .entry) ++ decimalOf n) ⌝ }
+    ensures end { λ r. ⌜ (r ≡ at + length (now (word .entry)) + length (decimalOf n)) × (r ≤ at + length (now (word .entry)) + 20) ⌝ }
+    ensures bytes { λ _. ⌜ now (out .exit) ≡ over (take at (now (out .entry)) ++ now (word .entry) ++ decimalOf n) (now (out .entry)) ⌝ }
 {
-    let start = put(out, at, word);
+    put(out, at, word);
+    let start = at + word.len();
     let mut digits = [0u8; 20];
     let k = io::decimal(n, &mut digits);
-    put(out, start, &digits[..k])
+    put(out, start, &digits[..k]);
+    start + k
 }
 
-fn least_line(cost: u64, opens: u32, steps: u32, out: &mut [u8; 96]) -> usize
-    ensures { λ r. ⌜ (r ≤ 96) × (length (now (out .exit)) ≡ 96) × (take r (now (out .exit)) ≡ leastLine cost opens steps) ⌝ }
+fn least_line(cost: u64, opens: u32, steps: u32, out: &mut [u8; LINE]) -> usize
+    ensures size { λ r. ⌜ r ≡ length (leastLine cost opens steps) ⌝ }
+    ensures bytes { λ _. ⌜ now (out .exit) ≡ over (leastLine cost opens steps) (now (out .entry)) ⌝ }
 {
     let a = put_field(out, 0, b"least ", cost);
     let b = put_field(out, a, b" open ", opens as u64);
     let c = put_field(out, b, b" steps ", steps as u64);
-    put(out, c, b"\n")
+    put(out, c, b"\n");
+    c + 1
 }
 
-fn none_line(steps: u32, out: &mut [u8; 96]) -> usize
-    ensures { λ r. ⌜ (r ≤ 96) × (length (now (out .exit)) ≡ 96) × (take r (now (out .exit)) ≡ noneLine steps) ⌝ }
+fn none_line(steps: u32, out: &mut [u8; LINE]) -> usize
+    ensures size { λ r. ⌜ r ≡ length (noneLine steps) ⌝ }
+    ensures bytes { λ _. ⌜ now (out .exit) ≡ over (noneLine steps) (now (out .entry)) ⌝ }
 {
     let a = put_field(out, 0, b"none open 0 steps ", steps as u64);
-    put(out, a, b"\n")
+    put(out, a, b"\n");
+    a + 1
 }
 
-fn refused_line(number: u32, place: u32, out: &mut [u8; 96]) -> usize
-    ensures { λ r. ⌜ (r ≤ 96) × (length (now (out .exit)) ≡ 96) × (take r (now (out .exit)) ≡ refusedLine number place) ⌝ }
+fn refused_line(number: u32, place: u32, out: &mut [u8; LINE]) -> usize
+    ensures size { λ r. ⌜ r ≡ length (refusedLine number place) ⌝ }
+    ensures bytes { λ _. ⌜ now (out .exit) ≡ over (refusedLine number place) (now (out .entry)) ⌝ }
 {
     let a = put_field(out, 0, b"refused ", number as u64);
     let b = put_field(out, a, b" at ", place as u64);
-    put(out, b, b"\n")
+    put(out, b, b"\n");
+    b + 1
 }
 
-// Puts the line of an answer at the start of `out`, and answers its length. The second clause lets a caller lend `&out[..r]`.
-pub fn line(a: Answer, out: &mut [u8; 96]) -> usize
-    ensures { λ r. ⌜ (r ≤ 96) × (take r (now (out .exit)) ≡ lineOf a) ⌝ }
+// Puts the line of an answer, and answers its length. The last clause lets a caller lend `&out[..r]`.
+pub fn line(a: Answer, out: &mut [u8; LINE]) -> usize
+    ensures size { λ r. ⌜ r ≡ length (lineOf a) ⌝ }
+    ensures bytes { λ _. ⌜ now (out .exit) ≡ over (lineOf a) (now (out .entry)) ⌝ }
     ensures { λ r. ⌜ Counts r (now (out .exit)) ⌝ }
 {
     if a.number != 0 {

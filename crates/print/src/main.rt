@@ -94,7 +94,7 @@ fn complains_once(sheet: Reading, record: Reading) -> bool {
 
 fn print_answer(sheet: &[u8], record: &[u8]) {
     let answer = checker::judge(sheet, record);
-    let mut text = [0u8; 96];
+    let mut text = [0u8; lines::LINE];
     let size = lines::line(answer, &mut text);
     io::write_all(STDOUT_FILENO, &text[..size]);
 }

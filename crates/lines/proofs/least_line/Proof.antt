@@ -1,8 +1,10 @@
 -- `lines::least_line` meets its contract: each part follows what stood before it.
 -- Assumes nothing.
-use native.Mathlib.Omega.{arith}
 use mathlib.Core.Path.{refl}
-use Rattle.lines.specs.Lines.{leastLine}
+use native.Mathlib.Omega.{arith}
+use Rattle.lines.specs.Text.{codes}
+use Rattle.lines.specs.Lines.{decimalOf, leastLine}
+use Rattle.lines.proofs.Texts.{nothing-put, field-put, word-put}
 use Rattle.lines.proofs.least_line.Statement.{statement}
 use Rattle.lines.proofs.least_line.Tie as tie
 
@@ -30,16 +32,21 @@ slice-aggregate-put c = refl
 put-requires : tie.Need-put-requires
 put-requires c κs = omega arith
 
+add-result : tie.Need-add-result
+add-result c = omega arith
+
 returns : tie.Need-returns
 unfolding leastLine
 returns c =
     let steps = c .before .before .before in
     let opens = steps .before .before .before in
-    let cost = opens .before .before .before in (
-      omega arith,
-      omega arith,
-      rw (c .put .ensures .1, steps .put-field3 .ensures .1, opens .put-field2 .ensures .1, cost .put-field .ensures .1),
-    )
+    let cost = opens .before .before .before in
+    let a = cost .before .before .before .args in
+    let l = field-put (codes "least ") (decimalOf (a .cost)) _ _ (nothing-put (a .out .now)) (cost .put-field .ensures) in
+    let o = field-put (codes " open ") (decimalOf (a .opens)) _ _ l (opens .put-field2 .ensures) in
+    let s = field-put (codes " steps ") (decimalOf (a .steps)) _ _ o (steps .put-field3 .ensures) in
+    let n = word-put (codes "\n") _ s (c .put .ensures) in
+    (n .end, n .bytes)
 
 pub least-line-spec : {M : Type 1} → statement M
 least-line-spec =
@@ -53,4 +60,5 @@ least-line-spec =
     put-field-requires-3
     slice-aggregate-put
     put-requires
+    add-result
     returns)

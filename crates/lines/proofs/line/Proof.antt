@@ -1,11 +1,9 @@
 -- `lines::line` meets its contract: each test leads to the line of its case.
 -- Assumes nothing.
-use mathlib.Core.Path.{_∙_}
-use native.Mathlib.Omega.{arith}
 use borrow.Author.Needs.{needs}
 use borrow.Author.Tests.{eq-eqb, ne-eqb}
 use Rattle.judgement.specs.Meaning.{none}
-use Rattle.lines.specs.Lines.{lineOf}
+use Rattle.lines.specs.Lines.{leastLine, noneLine, refusedLine, lineOf}
 use Rattle.lines.proofs.Texts.{counts}
 use Rattle.lines.proofs.line.Statement.{statement}
 use Rattle.lines.proofs.line.Tie as tie
@@ -17,7 +15,9 @@ returns : tie.Need-returns
 unfolding lineOf none
 returns c =
     let e = c .refused-line .ensures in
-    ((e .0, e .2 ∙ rw (ne-eqb _ 0 (c .before .before .if1 .taken))), counts _ _ (omega arith))
+    let g = c .before .before .before .before .args in
+    let n = counts (refusedLine (g .a .number) (g .a .place)) (g .out .now) _ _ (e .0) (e .1) in
+    rw (ne-eqb _ 0 (c .before .before .if1 .taken)) (e .0, (e .1, n))
 
 none-line-requires : tie.Need-none-line-requires
 none-line-requires c κs = search needs
@@ -27,7 +27,9 @@ unfolding lineOf none
 returns-2 c =
     let e = c .none-line .ensures in
     let t = c .before .before in
-    ((e .0, e .2 ∙ rw (eq-eqb _ 0 (t .before .before .if1 .left), eq-eqb _ _ (t .if2 .taken))), counts _ _ (omega arith))
+    let g = t .before .before .before .before .args in
+    let n = counts (noneLine (g .a .«step_count»)) (g .out .now) _ _ (e .0) (e .1) in
+    rw (eq-eqb _ 0 (t .before .before .if1 .left), eq-eqb _ _ (t .if2 .taken)) (e .0, (e .1, n))
 
 least-line-requires : tie.Need-least-line-requires
 least-line-requires c κs = search needs
@@ -37,7 +39,9 @@ unfolding lineOf none
 returns-3 c =
     let e = c .least-line .ensures in
     let t = c .before .before in
-    ((e .0, e .2 ∙ rw (eq-eqb _ 0 (t .before .before .if1 .left), ne-eqb _ _ (t .if2 .left))), counts _ _ (omega arith))
+    let g = t .before .before .before .before .args in
+    let n = counts (leastLine (g .a .cost) (g .a .«open_count») (g .a .«step_count»)) (g .out .now) _ _ (e .0) (e .1) in
+    rw (eq-eqb _ 0 (t .before .before .if1 .left), ne-eqb _ _ (t .if2 .left)) (e .0, (e .1, n))
 
 pub line-spec : {M : Type 1} → statement M
 line-spec =

@@ -1,24 +1,23 @@
--- `lines::put` meets its contract. The loop's invariant: what stood before, and then the first i bytes of the word.
+-- `lines::put` meets its contract. The loop's invariant: the first i bytes of the word are copied.
 -- Assumes nothing.
-use Prim.Native.Nat.{_+_, _-_, _≤_}
+use Prim.Native.Nat.{_-_, _≤_}
 use mathlib.Core.Path.{_≡_, refl, _∙_}
-use mathlib.Core.List.{_++_, append-nil}
-use native.Mathlib.Nat.{add-zero}
+use native.Mathlib.Numerals.{add-one}
 use native.Mathlib.Omega.{arith}
-use lib.ListN.{length, take, length-set}
-use lib.Seq.{take-length}
-use Rattle.lines.proofs.Texts.{put-more}
+use lib.ListN.{length, length-set}
+use lib.Seq.{paste, paste-zero, paste-suc}
+use Rattle.judgement.proofs.Laws.Buffer.{paste-over}
 use Rattle.lines.proofs.put.Statement.{statement}
 use Rattle.lines.proofs.put.Tie as tie
 
 abbrev Inv-loop : tie.InvT-loop
-Inv-loop out₀ at word i₀ out i = (i ≤ length word) × (length out ≡ length out₀) × (take (at + i) out ≡ take at out₀ ++ take i word)
+Inv-loop out₀ at word i₀ out i = (i ≤ length word) × (length out ≡ length out₀) × (out ≡ paste out₀ at word i)
 
 abbrev μ-loop : tie.MeasureT-loop
 μ-loop out₀ at word i₀ out i = length word - i
 
 loop-holds : tie.Need-loop-holds Inv-loop μ-loop
-loop-holds c = (omega arith, refl, simp (add-zero, append-nil))
+loop-holds c = let a = c .args in (omega arith, refl, paste-zero (a .out .now) (a .at) (a .word .now))
 
 shared-slice-read-out : tie.Need-shared-slice-read-out Inv-loop μ-loop
 shared-slice-read-out c = omega arith
@@ -41,11 +40,8 @@ loop-again c =
     let a = c .before .before .before .args in (
       omega arith,
       simp length-set (l .inv .1),
-      put-more (a .out .now) (l .out) (a .word .now) (a .at) (l .i) (omega arith) (omega arith) (l .inv .2),
+      rw (l .inv .2, add-one, paste-suc (a .out .now) (a .at) (a .word .now) (l .i) 0 (omega arith) (omega arith)),
     )
-
-add-result : tie.Need-add-result Inv-loop μ-loop
-add-result c = omega arith
 
 same-length : tie.Need-same-length Inv-loop μ-loop
 same-length c = c .before .loop .inv .1
@@ -53,8 +49,9 @@ same-length c = c .before .loop .inv .1
 returns : tie.Need-returns Inv-loop μ-loop
 returns c =
     let l = c .before .loop in
-    let e : l .i ≡ length (c .before .before .args .word .now) = omega arith in
-    (omega arith, l .inv .2 ∙ rw (e, take-length))
+    let a = c .before .before .args in
+    let e : l .i ≡ length (a .word .now) = omega arith in
+    l .inv .2 ∙ rw (e, paste-over (a .word .now) (a .out .now) (a .at) (omega arith))
 
 pub put-spec : {M : Type 1} → statement M
 put-spec =
@@ -69,6 +66,5 @@ put-spec =
     add-i
     loop-less
     loop-again
-    add-result
     same-length
     returns)

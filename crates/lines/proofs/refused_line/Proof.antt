@@ -1,8 +1,10 @@
 -- `lines::refused_line` meets its contract: each part follows what stood before it.
 -- Assumes nothing.
-use native.Mathlib.Omega.{arith}
 use mathlib.Core.Path.{refl}
-use Rattle.lines.specs.Lines.{refusedLine}
+use native.Mathlib.Omega.{arith}
+use Rattle.lines.specs.Text.{codes}
+use Rattle.lines.specs.Lines.{decimalOf, refusedLine}
+use Rattle.lines.proofs.Texts.{nothing-put, field-put, word-put}
 use Rattle.lines.proofs.refused_line.Statement.{statement}
 use Rattle.lines.proofs.refused_line.Tie as tie
 
@@ -24,12 +26,19 @@ slice-aggregate-put c = refl
 put-requires : tie.Need-put-requires
 put-requires c κs = omega arith
 
+add-result : tie.Need-add-result
+add-result c = omega arith
+
 returns : tie.Need-returns
 unfolding refusedLine
 returns c =
     let place = c .before .before .before in
     let number = place .before .before .before in
-    (omega arith, omega arith, rw (c .put .ensures .1, place .put-field2 .ensures .1, number .put-field .ensures .1))
+    let a = number .before .before .before .args in
+    let r = field-put (codes "refused ") (decimalOf (a .number)) _ _ (nothing-put (a .out .now)) (number .put-field .ensures) in
+    let p = field-put (codes " at ") (decimalOf (a .place)) _ _ r (place .put-field2 .ensures) in
+    let n = word-put (codes "\n") _ p (c .put .ensures) in
+    (n .end, n .bytes)
 
 pub refused-line-spec : {M : Type 1} → statement M
 refused-line-spec =
@@ -41,4 +50,5 @@ refused-line-spec =
     put-field-requires-2
     slice-aggregate-put
     put-requires
+    add-result
     returns)
