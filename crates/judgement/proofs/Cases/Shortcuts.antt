@@ -1,6 +1,6 @@
--- Cheap checkers that demand 3 shuts out: one that refuses all, one that accepts all, one that accepts nothing but one pair
--- of files, and one that accepts "none" unread. (One that trusts steps after the first, and one that invents a count, are
--- must-fail edits.)
+-- Cheap checkers that the demands shut out: one that refuses all, one that accepts all, one that accepts nothing but one pair
+-- of files, one whose acceptances are all the same answer, and one that accepts "none" unread. (One that trusts steps after the
+-- first, and one that invents a count, are must-fail edits.)
 -- Assumes nothing.
 use Prim.Native.Nat.{ℕ, zero, suc, _≤_}
 use mathlib.Core.Path.{_≡_, refl, sym, ap, _∙_}
@@ -11,13 +11,15 @@ use native.Mathlib.Omega.{arith}
 use native.Mathlib.Nat.{le-refl}
 use lib.ListN.{length}
 use lib.Dec.{ltb}
-use borrow.Author.Tests.{ltb-true}
+use borrow.Author.Tests.{ltb-true, eqb-true}
 use Rattle.judgement.specs.Meaning.{Assignment, cost, Model, Least, none}
 use Rattle.judgement.specs.Sheet.{variables, clauses, clause, problemOf}
 use Rattle.judgement.specs.Record.{claim, assigned, satisfied}
 use Rattle.judgement.specs.Writer.{bytesOf, numbersOf, pairsOf, joined, fileOf, sheetOf, stepOf, recordOf}
+use Rattle.judgement.specs.declared.Answer.{Answer}
+use Rattle.judgement.specs.Judgement.{accepts}
 use Rattle.judgement.specs.Computed.{right}
-use Rattle.judgement.specs.Demands.{IsBytes, Checker, SoundFor, CompleteFor, Accepted}
+use Rattle.judgement.specs.Demands.{IsBytes, Accepted, Shape, ExactlyWhen, Checker, SoundFor, CompleteFor}
 use Rattle.judgement.proofs.Laws.Scan.{and-l, and-r, all-each}
 use Rattle.judgement.proofs.Laws.Models.{satisfied-satisfies}
 use Rattle.judgement.proofs.Facts.Accepted.{exactly-when}
@@ -71,6 +73,12 @@ module _ (s r : List ℕ) (plan : Plan s r) where
       let (bodies, are-bytes, ok) = complete .least (exactly-when s r .0 (plan .accepted) .sheet) (plan .few) (assigned r) model (claim r) least .1 claim-is in
       (recordOf (cost (problemOf s) (assigned r)) _ bodies, ok)
 
+  -- an answer with demands 1 and 2 accepts, and its cost is the claim
+  answers-claim : (a : Answer) → Shape s r a → ExactlyWhen s r a → (accepts a ≡ true) × (a .cost ≡ claim r)
+  answers-claim a shaped exactly =
+      let ok = exactly .1 (exactly-when s r .0 (plan .accepted)) in
+      (ok, shaped .accepted (eqb-true (a .number) 0 ok) .1)
+
 -- ---- the shortcuts
 
 pub refuses-all : (A : Checker) → ((s r : List ℕ) → A s r → ⊥) → ((s : List ℕ) → CompleteFor A s) → ⊥
@@ -106,6 +114,18 @@ one-acceptance A s₀ r₀ only complete =
     let (x, ok) = accepts-some sheetA recordA planA A (complete sheetA) in
     let (y, okay) = accepts-some sheetB1 recordB1 planB1 A (complete sheetB1) in
     other-sheet (only sheetA x ok .0 ∙ sym (only sheetB1 y okay .0))
+
+other-claim : claim recordA ≡ claim recordB1 → ⊥
+unfolding right sheetA recordA bytesOf numbersOf pairsOf joined fileOf stepOf recordOf costStep recordB1
+other-claim e = omega (arith, e)
+
+-- f answers, and each of its acceptances is a
+pub fixed-answer : (f : List ℕ → List ℕ → Answer) (a : Answer) → ((s r : List ℕ) → accepts (f s r) ≡ true → f s r ≡ a)
+    → ((s r : List ℕ) → Shape s r (f s r)) → ((s r : List ℕ) → ExactlyWhen s r (f s r)) → ⊥
+fixed-answer f a fixed shaped exactly =
+    let (ok, is) = answers-claim sheetA recordA planA (f sheetA recordA) (shaped sheetA recordA) (exactly sheetA recordA) in
+    let (okay, other) = answers-claim sheetB1 recordB1 planB1 (f sheetB1 recordB1) (shaped sheetB1 recordB1) (exactly sheetB1 recordB1) in
+    other-claim (sym is ∙ ap (λ x. x .cost) (fixed sheetA recordA ok ∙ sym (fixed sheetB1 recordB1 okay)) ∙ other)
 
 pub none-unread : (A : Checker) → ((s r : List ℕ) → claim r ≡ none → A s r) → ((s r : List ℕ) → SoundFor A s r) → ⊥
 none-unread A unread sound-A =
