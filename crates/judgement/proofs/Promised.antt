@@ -50,7 +50,8 @@ module _ (s : List ℕ) (bytes : IsBytes s) (valid : ValidSheet s) (few : variab
       let small = cost-below-none s bytes (valid .n .1) α in
       let claim-is = record-claim c (assignmentOf (variables s) α) bodies (omega (arith, small)) in
       let (β, mb, e) = least .reached in
-      let high = bound-holds s (recordOf c (assignmentOf (variables s) α) bodies) (exactly-when s (recordOf c (assignmentOf (variables s) α) bodies) .0 ok) β mb in
+      let r : List ℕ = recordOf c (assignmentOf (variables s) α) bodies in
+      let high = bound-holds s r (exactly-when s r .0 ok) β mb in
       let low = least .below α m in
       omega (arith, claim-is, e, high, low)
 

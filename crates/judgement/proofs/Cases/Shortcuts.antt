@@ -19,6 +19,7 @@ use Rattle.judgement.specs.Writer.{bytesOf, numbersOf, pairsOf, joined, 
 use Rattle.judgement.specs.declared.Answer.{Answer}
 use Rattle.judgement.specs.Judgement.{accepts}
 use Rattle.judgement.specs.Computed.{right}
+use Rattle.judgement.specs.Facts.{ValidSheet}
 use Rattle.judgement.specs.Demands.{IsBytes, Accepted, Shape, ExactlyWhen, Checker, SoundFor, CompleteFor}
 use Rattle.judgement.proofs.Laws.Scan.{and-l, and-r, all-each}
 use Rattle.judgement.proofs.Laws.Models.{satisfied-satisfies}
@@ -67,10 +68,13 @@ module _ (s r : List ℕ) (plan : Plan s r) where
     below = sound s r (plan .bytes) .least (plan .accepted) (plan .some) .2;
   }
 
+  valid : ValidSheet s
+  valid = exactly-when s r .0 (plan .accepted) .sheet
+
   -- a complete checker accepts some record of the sheet
   accepts-some : (A : Checker) → CompleteFor A s → (x : List ℕ) × A s x
   accepts-some A complete =
-      let (bodies, are-bytes, ok) = complete .least (exactly-when s r .0 (plan .accepted) .sheet) (plan .few) (assigned r) model (claim r) least .1 claim-is in
+      let (bodies, are-bytes, ok) = complete .least valid (plan .few) (assigned r) model (claim r) least .1 claim-is in
       (recordOf (cost (problemOf s) (assigned r)) _ bodies, ok)
 
   -- an answer with demands 1 and 2 accepts, and its cost is the claim
@@ -102,7 +106,7 @@ dearer-costs e = omega (arith, e)
 pub accepts-all : (A : Checker) → ((s r : List ℕ) → A s r) → ((s : List ℕ) → CompleteFor A s) → ⊥
 accepts-all A always complete =
     dearer-costs
-    (complete sheetA .least (exactly-when sheetA recordA .0 (planA .accepted) .sheet) (planA .few) dearer dearer-model (claim recordA) (least sheetA recordA planA) .0
+    (complete sheetA .least (valid sheetA recordA planA) (planA .few) dearer dearer-model (claim recordA) (least sheetA recordA planA) .0
     ([], written-bytes (cost (problemOf sheetA) dearer) _ [] (packed-bytes (variables sheetA) dearer), always sheetA _))
 
 other-sheet : sheetA ≡ sheetB1 → ⊥

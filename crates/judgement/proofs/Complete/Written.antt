@@ -22,7 +22,8 @@ use Rattle.judgement.proofs.Complete.Bytes.{length-bytes, number-of, dr
 use Rattle.judgement.proofs.Complete.Stored.{AllFit, ascending-fits}
 use Rattle.judgement.proofs.Complete.Tables.{length-file, file-body, file-pairs}
 use Rattle.judgement.proofs.Complete.Packed.{storedBit, packed-length, packed-bit, clear-bit}
-use Rattle.judgement.proofs.Complete.Bodies.{none-fits, kindNumber, tailOf, body-short, body-bytes, Stores, stores-body, says-in, says-layout, stores-copies, stores-costs, resolution-x, resolution-y, resolution-pivot, resolution-size, States, resolves-bodies}
+use Rattle.judgement.proofs.Complete.Bodies.{none-fits, kindNumber, tailOf, body-short, body-bytes, Stores, stores-body, says-in, says-layout, stores-copies, stores-costs}
+use Rattle.judgement.proofs.Complete.Bodies.{resolution-x, resolution-y, resolution-pivot, resolution-size, States, resolves-bodies}
 
 -- ---- the record of any bodies
 
