@@ -5,7 +5,7 @@ ghost use mathlib.Core.Path.{_≡_};
 ghost use mathlib.Core.Bool.{cond};
 ghost use lib.ListN.{length};
 ghost use Rattle.judgement.specs.Judgement.{judgement, shownPart};
-ghost use Rattle.exports.specs.Numbers.{answerNumbers, partNumbers};
+ghost use Rattle.exports.specs.Numbers.{answerNumbers, partNumbers, NumbersInside};
 
 fn put_answer(a: Answer, out: &mut [u64])
     requires { ⌜ length (now out) ≡ 5 ⌝ }
@@ -48,7 +48,8 @@ pub extern "C" fn plan_judge(sheet: &[u8], record: &[u8], answer: &mut [u64; 5])
 // Where the literals of a step stand: 1 for the sheet or 0 for the record, the first byte, the number of bytes.
 #[no_mangle]
 pub extern "C" fn plan_show(sheet: &[u8], record: &[u8], step: u32, part: &mut [u64; 3])
-    ensures { λ _. ⌜ now (part .exit) ≡ partNumbers (shownPart (now (sheet .entry)) (now («record» .entry)) step) ⌝ }
+    ensures part { λ _. ⌜ now (part .exit) ≡ partNumbers (shownPart (now (sheet .entry)) (now («record» .entry)) step) ⌝ }
+    ensures inside { λ _. ⌜ NumbersInside (now (sheet .entry)) (now («record» .entry)) (now (part .exit)) ⌝ }
 {
     put_part(checker::shown_part(sheet, record, step), part);
 }

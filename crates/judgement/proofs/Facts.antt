@@ -6,3 +6,4 @@ pub mod IndependentSet
 pub mod Resolvent
 pub mod Inferences
 pub mod Accepted
+pub mod Shown

@@ -10,6 +10,7 @@ pub mod Record
 pub mod Step
 pub mod Kinds
 pub mod Judgement
+pub mod Place
 pub mod Writer
 pub mod Order
 pub mod Facts

@@ -2,6 +2,7 @@
 -- Assumes nothing.
 use mathlib.Core.Path.{ap, _∙_}
 use Rattle.exports.specs.Numbers.{partNumbers}
+use Rattle.exports.proofs.Inside.{numbers-inside}
 use borrow.Author.Needs.{needs}
 use Rattle.exports.proofs.plan_show.Statement.{statement}
 use Rattle.exports.proofs.plan_show.Tie as tie
@@ -13,7 +14,9 @@ put-part-requires : tie.Need-put-part-requires
 put-part-requires c κs = search needs
 
 returns : tie.Need-returns
-returns c = c .put-part .ensures ∙ ap partNumbers (c .before .before .shown-part .ensures)
+returns c =
+    let p = c .before .before .shown-part in
+    (c .put-part .ensures ∙ ap partNumbers (p .ensures .0), rw (c .put-part .ensures) (numbers-inside _ _ (p .result) (p .ensures .1)))
 
 pub plan-show-spec : {M : Type 1} → statement M
 plan-show-spec = tie.close (tie.spec shown-part-requires put-part-requires returns)
