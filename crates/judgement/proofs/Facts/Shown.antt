@@ -9,6 +9,7 @@ use native.Mathlib.Omega.{arith}
 use lib.ListN.{length, drop, length-take}
 use lib.Dec.{leb}
 use borrow.Author.Tests.{leb-true}
+use Rattle.judgement.specs.declared.Kind.the-variants.{Copy, Cost, IndependentSet, Resolvent}
 use Rattle.judgement.specs.Pairs.{pairOffset, pairLength, body}
 use Rattle.judgement.specs.Sheet.{clauses, clausePairsAt}
 use Rattle.judgement.specs.Record.{steps, stepPairsAt, step}
@@ -17,7 +18,7 @@ use Rattle.judgement.specs.Judgement.{judgement, accepts, clausePart, li
 use Rattle.judgement.specs.Place.{Inside}
 use Rattle.judgement.specs.Facts.{Among, PairRule, ValidSheet, RecordLayout, StepLayout, Inference, copies, costs, independent, resolution, Acceptable}
 use Rattle.judgement.proofs.Laws.Scan.{which, and-l, and-r}
-use Rattle.judgement.proofs.Facts.FirstByte.{kind-copy, kind-costs, kind-independent, kind-resolution}
+use Rattle.judgement.proofs.Facts.FirstByte.{begins-kind}
 use Rattle.judgement.proofs.Facts.Accepted.{exactly-when}
 
 -- where the pairs keep their rule, every body ends in the file; `left` bodies come after it
@@ -55,10 +56,10 @@ step-inside s r k ok w = go (ok .inferences k w)
     own = literals-inside s r k (ok .layout) w (ok .forms k w)
 
     go : Inference s r k → Inside s r (stepPart (kindOf (step s r k)) s r k)
-    go (copies i) = rw (kind-copy (step s r k) (i .kind)) (clause-inside s r (cited (step s r k) 1) (ok .sheet) (i .cites))
-    go (costs i) = rw (kind-costs (step s r k) (i .kind)) own
-    go (independent i) = rw (kind-independent (step s r k) (i .kind)) own
-    go (resolution i) = rw (kind-resolution (step s r k) (i .kind)) own
+    go (copies i) = rw (begins-kind Copy (step s r k) (omega arith) (i .kind)) (clause-inside s r (cited (step s r k) 1) (ok .sheet) (i .cites))
+    go (costs i) = rw (begins-kind Cost (step s r k) (omega arith) (i .kind)) own
+    go (independent i) = rw (begins-kind IndependentSet (step s r k) (omega arith) (i .kind)) own
+    go (resolution i) = rw (begins-kind Resolvent (step s r k) (omega arith) (i .kind)) own
 
 pub shown-inside : (s r : List ℕ) (k : ℕ) → Inside s r (shownPart s r k)
 unfolding shownPart

@@ -15,7 +15,7 @@ use Rattle.judgement.specs.Sheet.{clauses, clause, sheetFinding, sheetPa
 use Rattle.judgement.specs.declared.Kind.{Kind}
 use Rattle.judgement.specs.declared.Kind.the-variants.{Copy, Cost, IndependentSet, Resolvent, Unknown}
 use Rattle.judgement.specs.Step.{kindOf, literals, cited}
-use Rattle.judgement.specs.Record.{claimsNone, steps, step, recordPairs, brokenClause, claimedCost}
+use Rattle.judgement.specs.Record.{claimsNone, steps, step, recordPairs, recordFinding, brokenClause, claimedCost}
 use Rattle.judgement.specs.Kinds.{dependsOn, dependence, resolutionFinding, kindFinding}
 use Rattle.judgement.specs.Judgement.{assignmentFinding, stepFinding, finding, answerOf, judgement}
 use Rattle.judgement.specs.Order.{each, pairTests, dependenceTests, resolutionTests, kindTests, stepTests, assignmentTests, tests, FirstFault}
@@ -78,7 +78,7 @@ first-assignment s r = go (claimsNone r)
     go false = rw (first-append, first-singles (brokenClause s r) (clauses s), then-fine)
 
 pub in-order : (s r : List ℕ) → first (tests s r) ≡ finding s r
-unfolding tests finding sheetFinding sheetPairs recordPairs
+unfolding tests finding sheetFinding sheetPairs recordFinding recordPairs
 in-order s r =
     simp (
       first-append,
