@@ -1,5 +1,6 @@
 // The line that is printed for an answer, put at the beginning of a lent buffer. What stands behind it stays.
 use judgement::Answer;
+use judgement::NONE;
 ghost use mathlib.Core.Path.{_≡_};
 ghost use mathlib.Core.List.{_++_};
 ghost use Prim.Native.Nat.{_+_, _≤_};
@@ -76,8 +77,7 @@ pub fn line(a: Answer, out: &mut [u8; LINE]) -> usize
     if a.number != 0 {
         return refused_line(a.number, a.place, out);
     }
-    // the claim "none"
-    if a.cost == u64::MAX {
+    if a.cost == NONE {
         return none_line(a.step_count, out);
     }
     least_line(a.cost, a.open_count, a.step_count, out)
