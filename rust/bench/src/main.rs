@@ -2,7 +2,7 @@
 //! explains it.
 
 use bench::{judge, Marks, Merge};
-use planner::padding::Mix;
+use planner::padding::{Kind, Mix};
 use samples::Sample;
 use std::hint::black_box;
 use std::path::Path;
@@ -11,12 +11,23 @@ use std::{env, fs, process};
 
 /// The usage, in full in `bench/run`.
 const USAGE: &str = "usage: bench times MEGABYTES ROUNDS
-       bench write mixed|resolution MEGABYTES FOLDER
+       bench write SET MEGABYTES FOLDER
        bench once proved|merge|marks|bytes|nothing FOLDER";
 
 const SEED: u64 = 11;
 const MEGABYTE: usize = 1_000_000;
-const MIXES: [(&str, Mix); 2] = [("mixed", Mix::Mixed), ("resolution", Mix::Resolution)];
+
+/// The sets of records. Those of long steps of one kind are to find out where the time goes, and are not timed.
+const SETS: [(&str, Mix); 7] = [
+    ("mixed", Mix::Mixed),
+    ("resolution", Mix::Resolution),
+    ("long", Mix::Long),
+    ("long-copy", Mix::LongOf(Kind::Copy)),
+    ("long-cost", Mix::LongOf(Kind::Cost)),
+    ("long-independent", Mix::LongOf(Kind::Independent)),
+    ("long-resolution", Mix::LongOf(Kind::Resolution)),
+];
+const TIMED_SETS: usize = 3;
 
 type Job = fn(&[u8], &[u8]) -> u64;
 
@@ -47,7 +58,7 @@ fn main() {
     let words: Vec<&str> = given.iter().map(String::as_str).collect();
     let done = match words[..] {
         ["times", size, rounds] => times(size, rounds),
-        ["write", mix, size, folder] => write(mix, size, Path::new(folder)),
+        ["write", set, size, folder] => write(set, size, Path::new(folder)),
         ["once", job, folder] => once(job, Path::new(folder)),
         _ => None,
     };
@@ -61,24 +72,25 @@ fn bytes_of(megabytes: &str) -> Option<usize> {
     megabytes.parse::<usize>().ok()?.checked_mul(MEGABYTE)
 }
 
-/// Prints a line of the table for each mix.
+/// Prints a line of the table for each set.
 fn times(size: &str, rounds: &str) -> Option<()> {
     let size = bytes_of(size)?;
     let rounds = rounds.parse().ok().filter(|rounds| *rounds > 0)?;
-    for (name, mix) in MIXES {
+    for (name, mix) in SETS.into_iter().take(TIMED_SETS) {
         let sample = samples::long(SEED, size, mix);
-        println!("{}", line(name, &sample, medians(&sample, rounds)));
+        println!("{}", line(name, &sample, times_of(&sample, rounds)));
     }
     Some(())
 }
 
-/// The median time of each job in milliseconds. The jobs take turns, so that a busy moment of the machine meets all of them.
-fn medians(sample: &Sample, rounds: usize) -> [f64; TIMED] {
+/// The least time of each job in milliseconds. The jobs take turns, so that a busy moment of the machine meets all of them,
+/// and what else the machine does can only make a round longer.
+fn times_of(sample: &Sample, rounds: usize) -> [f64; TIMED] {
     // Short records are judged several times for one time, to be well above the clock's step.
     let turns = (4 * MEGABYTE / sample.record.len()).max(1);
-    let mut times = [const { Vec::new() }; TIMED];
+    let mut least = [f64::INFINITY; TIMED];
     for _ in 0..rounds {
-        for (place, times) in times.iter_mut().enumerate() {
+        for (place, least) in least.iter_mut().enumerate() {
             let start = Instant::now();
             for _ in 0..turns {
                 black_box(JOBS[place].1(
@@ -86,13 +98,10 @@ fn medians(sample: &Sample, rounds: usize) -> [f64; TIMED] {
                     black_box(&sample.record),
                 ));
             }
-            times.push(start.elapsed().as_secs_f64() * 1000.0 / turns as f64);
+            *least = least.min(start.elapsed().as_secs_f64() * 1000.0 / turns as f64);
         }
     }
-    times.map(|mut times| {
-        times.sort_unstable_by(f64::total_cmp);
-        times[times.len() / 2]
-    })
+    least
 }
 
 fn line(name: &str, sample: &Sample, [proved, merge, marks, bytes]: [f64; TIMED]) -> String {
@@ -109,8 +118,8 @@ fn line(name: &str, sample: &Sample, [proved, merge, marks, bytes]: [f64; TIMED]
 }
 
 /// Writes a sheet and a record to run `once` on.
-fn write(mix: &str, size: &str, folder: &Path) -> Option<()> {
-    let (_, mix) = MIXES.into_iter().find(|(name, _)| *name == mix)?;
+fn write(set: &str, size: &str, folder: &Path) -> Option<()> {
+    let (_, mix) = SETS.into_iter().find(|(name, _)| *name == set)?;
     let sample = samples::long(SEED, bytes_of(size)?, mix);
     for (name, bytes) in [("sheet", sample.sheet), ("record", sample.record)] {
         fs::write(folder.join(name), bytes).unwrap_or_else(|error| fail(name, &error));

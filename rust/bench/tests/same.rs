@@ -38,7 +38,7 @@ fn on_generated_and_damaged_records() {
 
 #[test]
 fn on_longer_records() {
-    for mix in [Mix::Mixed, Mix::Resolution] {
+    for mix in [Mix::Mixed, Mix::Resolution, Mix::Long] {
         let sample = samples::long(7, 300_000, mix);
         assert_eq!(same(&sample.sheet, &sample.record, "long"), 0);
         let mut damaged = sample.record;

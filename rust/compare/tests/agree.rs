@@ -98,6 +98,7 @@ fn on_longer_records() {
         (1, 300_000, Mix::Mixed),
         (2, 300_000, Mix::Resolution),
         (3, 1_000_000, Mix::Mixed),
+        (6, 1_000_000, Mix::Long),
     ] {
         let sample = samples::long(seed, size, mix);
         assert_eq!(same(&sample.sheet, &sample.record, "long"), 0);
@@ -116,7 +117,7 @@ fn on_longer_records() {
 fn on_longer_records_with_one_byte_changed() {
     const CHANGES: usize = 2_000;
     let mut met = [0usize; 20];
-    for (seed, mix) in [(4, Mix::Mixed), (5, Mix::Resolution)] {
+    for (seed, mix) in [(4, Mix::Mixed), (5, Mix::Resolution), (7, Mix::Long)] {
         let Sample { sheet, record, .. } = samples::long(seed, 50_000, mix);
         let mut changed = record.clone();
         for i in 0..CHANGES {

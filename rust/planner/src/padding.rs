@@ -1,9 +1,12 @@
 //! Valid steps that no certificate needs: they make records long and give every kind of step.
 
+mod lengthy;
+
 use crate::bounds::{cost_bound, independent_bound, resolvent};
 use crate::certificate::{Reason, Step};
 use crate::problem::{Literal, Problem, NONE};
 use crate::random::Random;
+use lengthy::{Pair, PAIRS};
 use std::rc::Rc;
 
 /// How many steps are remembered for each literal, and how many literals one of them may have:
@@ -18,7 +21,25 @@ pub enum Mix {
     Mixed,
     /// Resolutions, and only as many others as it takes to have premises.
     Resolution,
+    /// A quarter of each kind, in steps of 20 to 40 literals. The sheet has to have clauses of that length.
+    Long,
+    /// Such steps of one kind, and where that is resolution, as many others as it takes to have premises.
+    LongOf(Kind),
 }
+
+/// The kinds in their order.
+#[derive(Clone, Copy, Debug, PartialEq, Eq)]
+pub enum Kind {
+    Copy,
+    Cost,
+    Independent,
+    Resolution,
+}
+
+const KINDS: [Kind; 4] = [Kind::Copy, Kind::Cost, Kind::Independent, Kind::Resolution];
+
+/// An earlier step under its number.
+type Premise = Rc<(u32, Step)>;
 
 pub struct Padding<'a> {
     problem: &'a Problem,
@@ -26,7 +47,11 @@ pub struct Padding<'a> {
     mix: Mix,
     made: usize,
     /// Earlier steps that hold each literal, by its code.
-    holders: Vec<Vec<Rc<(u32, Step)>>>,
+    holders: Vec<Vec<Premise>>,
+    /// Earlier steps with many literals, pairs of them that resolve, and what the latest step was made to resolve with.
+    lengthy: Vec<Premise>,
+    pairs: Vec<Pair>,
+    partner: Option<(Premise, Literal)>,
 }
 
 impl<'a> Padding<'a> {
@@ -38,39 +63,57 @@ impl<'a> Padding<'a> {
             mix,
             made: 0,
             holders,
+            lengthy: Vec::new(),
+            pairs: Vec::new(),
+            partner: None,
         }
     }
 
     /// A valid step for a certificate whose steps were all shown to `remember`.
     pub fn step(&mut self) -> Step {
         self.made += 1;
-        let starting = self.made <= 2 * self.problem.clauses.len().max(self.problem.variables());
-        let choice = match self.mix {
-            Mix::Resolution if !starting => 3,
-            Mix::Resolution => self.random.below(2),
-            Mix::Mixed => self.random.below(8).min(3),
+        let kind = match self.mix {
+            Mix::Mixed => KINDS[self.random.below(8).min(3)],
+            Mix::Long => KINDS[self.random.below(4)],
+            Mix::Resolution | Mix::LongOf(Kind::Resolution) if self.lacks_premises() => {
+                KINDS[self.random.below(2)]
+            }
+            Mix::Resolution => Kind::Resolution,
+            Mix::LongOf(kind) => kind,
         };
-        let step = match choice {
-            0 => self.copy(),
-            1 => None,
-            2 => self.independent(),
-            _ => self.resolution(),
+        let step = match (kind, self.is_long()) {
+            (Kind::Copy, _) => self.copy(),
+            (Kind::Cost, false) => None,
+            (Kind::Independent, false) => self.independent(),
+            (Kind::Resolution, false) => self.resolution(),
+            (Kind::Cost, true) => self.partner(),
+            (Kind::Independent, true) => self.long_independent(),
+            (Kind::Resolution, true) => self.long_resolution(),
         };
         step.unwrap_or_else(|| self.cost())
     }
 
+    /// Whether it is too early for resolutions alone.
+    fn lacks_premises(&self) -> bool {
+        if self.is_long() {
+            return self.pairs.len() < PAIRS;
+        }
+        self.made <= 2 * self.problem.clauses.len().max(self.problem.variables())
+    }
+
+    fn is_long(&self) -> bool {
+        matches!(self.mix, Mix::Long | Mix::LongOf(_))
+    }
+
     /// Makes a step, under its number, a premise for later resolutions.
     pub fn remember(&mut self, number: u32, step: &Step) {
-        if step.literals.len() > LONGEST {
-            return;
-        }
-        let shared = Rc::new((number, step.clone()));
-        for literal in &step.literals {
-            let holders = &mut self.holders[usize::from(literal.code())];
-            if holders.len() < REMEMBERED {
-                holders.push(Rc::clone(&shared));
-            } else {
-                holders[self.random.below(REMEMBERED)] = Rc::clone(&shared);
+        if self.is_long() {
+            self.remember_long(number, step);
+        } else if step.literals.len() <= LONGEST {
+            let shared = Rc::new((number, step.clone()));
+            for literal in &step.literals {
+                let holders = &mut self.holders[usize::from(literal.code())];
+                keep(holders, Rc::clone(&shared), REMEMBERED, &mut self.random);
             }
         }
     }
@@ -92,10 +135,18 @@ impl<'a> Padding<'a> {
     }
 
     fn cost(&mut self) -> Step {
+        if self.is_long() {
+            return self.long_cost();
+        }
         let wanted = self.random.below(self.problem.variables().min(6) + 1);
         let mut literals: Vec<Literal> = (0..wanted).map(|_| self.literal()).collect();
         literals.sort_unstable();
         literals.dedup_by_key(|literal| literal.variable());
+        self.cost_of(literals)
+    }
+
+    /// The cost step of a list in order.
+    fn cost_of(&self, literals: Vec<Literal>) -> Step {
         let bound = cost_bound(self.problem, &literals);
         Step {
             literals,
@@ -109,38 +160,32 @@ impl<'a> Padding<'a> {
         Literal::new(variable, self.random.percent(50))
     }
 
-    /// Gathers clauses that stay independent when all but some positive literals are made false.
     fn independent(&mut self) -> Option<Step> {
-        let (mut literals, mut unset, mut clauses) = (Vec::new(), Vec::new(), Vec::new());
-        for _ in 0..self.random.between(1, 5) {
+        let tries = self.random.between(1, 5);
+        let mut gathered = self.gather(tries, usize::MAX)?;
+        if self.random.percent(50) {
+            gathered.settle(self.literal());
+        }
+        gathered.step(self.problem)
+    }
+
+    /// Gathers clauses that stay independent when all but some positive literals are made false, and no more than `most`.
+    fn gather(&mut self, tries: usize, most: usize) -> Option<Gathered> {
+        let mut gathered = Gathered::default();
+        for _ in 0..tries {
             let place = self.random.below(self.problem.clauses.len().max(1));
             let clause = self.problem.clauses.get(place)?;
-            let number = place as u32 + 1;
-            if let Some((falsified, left)) = self.split(clause, &literals, &unset) {
-                literals.extend(falsified);
-                unset.extend(left);
-                clauses.push(number);
+            let Some((falsified, left)) = self.split(clause, &gathered.literals, &gathered.unset)
+            else {
+                continue;
+            };
+            if gathered.literals.len() + falsified.len() <= most {
+                gathered.literals.extend(falsified);
+                gathered.unset.extend(left);
+                gathered.clauses.push(place as u32 + 1);
             }
         }
-        if self.random.percent(50) {
-            let extra = self.literal();
-            let free = |held: &Literal| held.variable() != extra.variable();
-            if literals.iter().all(free) && unset.iter().all(free) {
-                literals.push(extra);
-            }
-        }
-        if clauses.is_empty() {
-            return None;
-        }
-        literals.sort_unstable();
-        clauses.sort_unstable();
-        let bound = independent_bound(self.problem, &literals, &clauses)?;
-        let reason = Reason::Independent { clauses };
-        Some(Step {
-            literals,
-            bound,
-            reason,
-        })
+        Some(gathered)
     }
 
     /// The literals of a clause to make false and those to leave unset, when it can join.
@@ -174,22 +219,67 @@ impl<'a> Padding<'a> {
             let a = self.random.pick(&self.holders[up]).cloned();
             let b = self.random.pick(&self.holders[up + 1]).cloned();
             let (Some(a), Some(b)) = (a, b) else { continue };
-            let merged = resolvent(&a.1.literals, &b.1.literals, pivot);
-            if let Some(literals) = merged {
-                let bound = a.1.bound.min(b.1.bound);
-                let (positive, negative, pivot) = (a.0, b.0, pivot as u16);
-                let reason = Reason::Resolution {
-                    positive,
-                    negative,
-                    pivot,
-                };
-                return Some(Step {
-                    literals,
-                    bound,
-                    reason,
-                });
+            let step = resolution_of(&a, &b, pivot);
+            if step.is_some() {
+                return step;
             }
         }
         None
+    }
+}
+
+/// Clauses that are independent where the literals are false; these leave some of their variables unset.
+#[derive(Default)]
+struct Gathered {
+    literals: Vec<Literal>,
+    unset: Vec<Literal>,
+    clauses: Vec<u32>,
+}
+
+impl Gathered {
+    /// One literal more to make false, if nothing here has its variable.
+    fn settle(&mut self, extra: Literal) {
+        let free = |held: &Literal| held.variable() != extra.variable();
+        if self.literals.iter().all(free) && self.unset.iter().all(free) {
+            self.literals.push(extra);
+        }
+    }
+
+    fn step(mut self, problem: &Problem) -> Option<Step> {
+        if self.clauses.is_empty() {
+            return None;
+        }
+        self.literals.sort_unstable();
+        self.clauses.sort_unstable();
+        let bound = independent_bound(problem, &self.literals, &self.clauses)?;
+        Some(Step {
+            literals: self.literals,
+            bound,
+            reason: Reason::Independent {
+                clauses: self.clauses,
+            },
+        })
+    }
+}
+
+/// The resolution of two premises, unless it would hold a variable both ways.
+fn resolution_of(a: &(u32, Step), b: &(u32, Step), pivot: usize) -> Option<Step> {
+    Some(Step {
+        literals: resolvent(&a.1.literals, &b.1.literals, pivot)?,
+        bound: a.1.bound.min(b.1.bound),
+        reason: Reason::Resolution {
+            positive: a.0,
+            negative: b.0,
+            pivot: pivot as u16,
+        },
+    })
+}
+
+/// Adds to what is kept, in place of something else where it is full.
+fn keep<T>(kept: &mut Vec<T>, new: T, most: usize, random: &mut Random) {
+    if kept.len() < most {
+        kept.push(new);
+    } else {
+        kept[random.below(most)] = new;
     }
 }

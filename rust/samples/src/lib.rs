@@ -44,7 +44,11 @@ pub fn stream(seed: u64) -> impl Iterator<Item = Sample> {
 
 /// A valid sample whose record has about `size` bytes.
 pub fn long(seed: u64, size: usize, mix: Mix) -> Sample {
-    let problem = sheets::roomy(&mut Random::new(seed));
+    let mut random = Random::new(seed);
+    let problem = match mix {
+        Mix::Mixed | Mix::Resolution => sheets::roomy(&mut random),
+        Mix::Long | Mix::LongOf(_) => sheets::lengthy(&mut random),
+    };
     let plan = search::plan(&problem);
     let record = long::record(&problem, &plan, seed, size, mix);
     Sample {

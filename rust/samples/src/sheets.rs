@@ -156,3 +156,20 @@ pub fn roomy(random: &mut Random) -> Problem {
         random,
     )
 }
+
+/// The problem under the records of long steps: clauses of 20 to 40 literals, over so many variables that several of them can
+/// be independent.
+pub fn lengthy(random: &mut Random) -> Problem {
+    let (variables, clauses, costs) = (1000, 200, Costs::Any);
+    problem(
+        &Shape {
+            variables,
+            clauses,
+            shortest: 20,
+            longest: 40,
+            positive: 80,
+            costs,
+        },
+        random,
+    )
+}

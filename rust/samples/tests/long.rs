@@ -1,22 +1,28 @@
 //! Long records are valid, as long as wanted, and made of what was asked for.
 
-use planner::padding::Mix;
+use planner::padding::{Kind, Mix};
 use samples::draft::read_u32;
 use samples::{long, Sample};
 
 const SIZE: usize = 1_000_000;
 
-/// How many steps there are of each kind, and of all.
-fn kinds(sample: &Sample) -> ([usize; 5], usize) {
+/// How many steps there are of each kind, and of all; and of how many literals the shortest step and the longest, but for
+/// the last, which has none.
+fn kinds(sample: &Sample) -> ([usize; 5], usize, [usize; 2]) {
     let variables = usize::from(u16::from_le_bytes([sample.sheet[0], sample.sheet[1]]));
     let count = read_u32(&sample.record, 8).unwrap() as usize;
     let start = 12 + variables.div_ceil(8);
     let mut kinds = [0; 5];
+    let mut lengths = Vec::new();
     for step in 0..count {
         let offset = read_u32(&sample.record, start + 8 * step).unwrap() as usize;
-        kinds[usize::from(sample.record[offset])] += 1;
+        let body = &sample.record[offset..];
+        kinds[usize::from(body[0])] += 1;
+        lengths.push(usize::from(u16::from_le_bytes([body[2], body[3]])));
     }
-    (kinds, count)
+    assert_eq!(lengths.pop(), Some(0));
+    let ends = [lengths.iter().min(), lengths.iter().max()];
+    (kinds, count, ends.map(|end| *end.unwrap()))
 }
 
 #[test]
@@ -26,12 +32,18 @@ fn long_records_are_accepted() {
         (2, Mix::Mixed),
         (3, Mix::Resolution),
         (4, Mix::Resolution),
+        (5, Mix::Long),
+        (6, Mix::Long),
+        (7, Mix::LongOf(Kind::Copy)),
+        (8, Mix::LongOf(Kind::Cost)),
+        (9, Mix::LongOf(Kind::Independent)),
+        (10, Mix::LongOf(Kind::Resolution)),
     ] {
         let sample = long(seed, SIZE, mix);
         let answer = reference::judge(&sample.sheet, &sample.record);
-        let (kinds, count) = kinds(&sample);
+        let (kinds, count, ends) = kinds(&sample);
         println!(
-            "{mix:?}, {} bytes, {count} steps, {:?}",
+            "{mix:?}, {} bytes, {count} steps, {:?}, {ends:?} literals",
             sample.record.len(),
             &kinds[1..]
         );
@@ -41,6 +53,13 @@ fn long_records_are_accepted() {
         match mix {
             Mix::Mixed => assert!(kinds[1..].iter().all(|of_kind| 20 * of_kind > count)),
             Mix::Resolution => assert!(kinds[4] * 10 > count * 9),
+            Mix::Long => assert!(kinds[1..]
+                .iter()
+                .all(|of_kind| (count * 23..count * 27).contains(&(100 * of_kind)))),
+            Mix::LongOf(kind) => assert!(kinds[kind as usize + 1] * 10 > count * 9),
+        }
+        if matches!(mix, Mix::Long | Mix::LongOf(_)) {
+            assert_eq!(ends, [20, 40]);
         }
     }
 }
