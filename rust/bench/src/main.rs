@@ -10,14 +10,14 @@ use std::time::Instant;
 use std::{env, fs, process};
 
 /// The usage, in full in `bench/run`.
-const USAGE: &str = "usage: bench times MEGABYTES ROUNDS
+const USAGE: &str = "usage: bench times MEGABYTES ROUNDS SET..
        bench write SET MEGABYTES FOLDER
        bench once proved|merge|marks|bytes|nothing FOLDER";
 
 const SEED: u64 = 11;
 const MEGABYTE: usize = 1_000_000;
 
-/// The sets of records. Those of long steps of one kind are to find out where the time goes, and are not timed.
+/// The sets of records. Those of long steps of one kind are to find out where the time goes.
 const SETS: [(&str, Mix); 7] = [
     ("mixed", Mix::Mixed),
     ("resolution", Mix::Resolution),
@@ -27,7 +27,6 @@ const SETS: [(&str, Mix); 7] = [
     ("long-independent", Mix::LongOf(Kind::Independent)),
     ("long-resolution", Mix::LongOf(Kind::Resolution)),
 ];
-const TIMED_SETS: usize = 3;
 
 type Job = fn(&[u8], &[u8]) -> u64;
 
@@ -57,7 +56,7 @@ fn main() {
     let given: Vec<String> = env::args().skip(1).collect();
     let words: Vec<&str> = given.iter().map(String::as_str).collect();
     let done = match words[..] {
-        ["times", size, rounds] => times(size, rounds),
+        ["times", size, rounds, ref sets @ ..] => times(size, rounds, sets),
         ["write", set, size, folder] => write(set, size, Path::new(folder)),
         ["once", job, folder] => once(job, Path::new(folder)),
         _ => None,
@@ -73,32 +72,32 @@ fn bytes_of(megabytes: &str) -> Option<usize> {
 }
 
 /// Prints a line of the table for each set.
-fn times(size: &str, rounds: &str) -> Option<()> {
+fn times(size: &str, rounds: &str, sets: &[&str]) -> Option<()> {
     let size = bytes_of(size)?;
     let rounds = rounds.parse().ok().filter(|rounds| *rounds > 0)?;
-    for (name, mix) in SETS.into_iter().take(TIMED_SETS) {
-        let sample = samples::long(SEED, size, mix);
+    for name in sets {
+        let sample = samples::long(SEED, size, mix_of(name)?);
         println!("{}", line(name, &sample, times_of(&sample, rounds)));
     }
     Some(())
 }
 
-/// The least time of each job in milliseconds. The jobs take turns, so that a busy moment of the machine meets all of them,
-/// and what else the machine does can only make a round longer.
+fn mix_of(set: &str) -> Option<Mix> {
+    let found = SETS.into_iter().find(|(name, _)| *name == set);
+    found.map(|(_, mix)| mix)
+}
+
+/// The least time of each job in milliseconds, since what else the machine does can only make one longer. The jobs take turns,
+/// so that its busy moments meet all of them.
 fn times_of(sample: &Sample, rounds: usize) -> [f64; TIMED] {
-    // Short records are judged several times for one time, to be well above the clock's step.
-    let turns = (4 * MEGABYTE / sample.record.len()).max(1);
+    // Short records are judged more often.
+    let turns = (10 * MEGABYTE / sample.record.len()).max(1);
     let mut least = [f64::INFINITY; TIMED];
-    for _ in 0..rounds {
-        for (place, least) in least.iter_mut().enumerate() {
+    for _ in 0..rounds * turns {
+        for ((_, job), least) in JOBS.iter().zip(&mut least) {
             let start = Instant::now();
-            for _ in 0..turns {
-                black_box(JOBS[place].1(
-                    black_box(&sample.sheet),
-                    black_box(&sample.record),
-                ));
-            }
-            *least = least.min(start.elapsed().as_secs_f64() * 1000.0 / turns as f64);
+            black_box(job(black_box(&sample.sheet), black_box(&sample.record)));
+            *least = least.min(start.elapsed().as_secs_f64() * 1000.0);
         }
     }
     least
@@ -119,8 +118,7 @@ fn line(name: &str, sample: &Sample, [proved, merge, marks, bytes]: [f64; TIMED]
 
 /// Writes a sheet and a record to run `once` on.
 fn write(set: &str, size: &str, folder: &Path) -> Option<()> {
-    let (_, mix) = SETS.into_iter().find(|(name, _)| *name == set)?;
-    let sample = samples::long(SEED, bytes_of(size)?, mix);
+    let sample = samples::long(SEED, bytes_of(size)?, mix_of(set)?);
     for (name, bytes) in [("sheet", sample.sheet), ("record", sample.record)] {
         fs::write(folder.join(name), bytes).unwrap_or_else(|error| fail(name, &error));
     }
