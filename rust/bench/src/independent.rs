@@ -1,43 +1,39 @@
 //! Kind 3: refusals 14 and 15. The four conditions on a clause are one refusal at one place, so that one look at each
 //! literal settles them, and gives the least cost as well.
 
-use crate::read::{code, number, Codes};
+use crate::read::{code, number, Codes, CODES};
+use crate::record::NONE;
 use crate::sheet::Sheet;
 use crate::step::CostClause;
 
-/// A mark for each code: the number of the step that made it, twice, and 1 more for a variable that a clause uses. So no
-/// mark has to be taken away after a step.
-pub(crate) struct Stamps([u32; SIZE]);
-
-/// A power of 2 above every code, so that a mask spares the test of an index.
-const SIZE: usize = 4096;
+/// A mark for each code: step k's is 2 k for a literal of the step, which is false, and 1 more for one that is true or that a
+/// cited clause uses. So no mark has to be taken away after a step.
+pub(crate) struct Stamps([u32; CODES]);
 
 impl Stamps {
     pub fn new() -> Self {
-        Stamps([0; SIZE])
+        Stamps([0; CODES])
     }
 
-    fn at(&mut self, code: usize) -> &mut u32 {
-        &mut self.0[code % SIZE]
-    }
-
-    /// The least cost of an unsettled variable of the clause, which is then used; nothing where a condition fails.
-    fn least(&mut self, sheet: &Sheet, clause: Codes, settled: u32) -> Option<u64> {
-        let mut least = None;
+    /// The least cost of an unsettled variable of the clause, which is then used; nothing where a condition fails. There is no
+    /// branch: whether a literal is settled cannot be guessed.
+    fn least(&mut self, sheet: &Sheet, clause: Codes, settled: i64) -> Option<u64> {
+        let mut least = NONE;
+        let mut worst = 0;
+        let mut unsettled = 0;
         for &stored in clause {
             let code = code(stored);
-            if *self.at(code) == settled {
-                continue;
-            }
-            // Not false: an odd one is true or negative and unsettled, an even one may be true or used.
-            if code % 2 == 1 || *self.at(code + 1) == settled || *self.at(code) == settled + 1 {
-                return None;
-            }
-            *self.at(code) = settled + 1;
-            let cost = sheet.cost(code);
-            least = Some(least.map_or(cost, |least: u64| least.min(cost)));
+            let mark = &mut self.0[code % CODES];
+            // 0 for a false literal, 1 for one that may not stand here, negative for an unsettled one
+            let state = i64::from(*mark) - settled;
+            worst = worst.max(state);
+            let free = state >> 63;
+            unsettled |= code as i64 & free;
+            *mark = (settled - free) as u32;
+            least = least.min(sheet.cost(code) | !free as u64);
         }
-        least
+        let fits = worst == 0 && unsettled % 2 == 0;
+        (fits && least != NONE).then_some(least)
     }
 }
 
@@ -52,12 +48,14 @@ pub(crate) fn check(
     // A record of k steps has 8 k bytes at least, so that twice the number fits.
     let settled = 2 * k as u32;
     for &stored in claim.literals {
-        *stamps.at(code(stored)) = settled;
+        let code = code(stored);
+        stamps.0[code % CODES] = settled;
+        stamps.0[(code ^ 1) % CODES] = settled + 1;
     }
     let mut sum = sheet.negative_cost(claim.literals);
     for &stored in cited {
         let clause = sheet.clause(number(stored));
-        sum += stamps.least(sheet, clause, settled).ok_or(14u64)?;
+        sum += stamps.least(sheet, clause, settled.into()).ok_or(14u64)?;
     }
     if claim.bound != sum {
         return Err(15);

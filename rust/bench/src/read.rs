@@ -16,6 +16,10 @@ pub(crate) fn fault<T>(number: u64, place: usize) -> Result<T, Fault> {
 pub(crate) type Codes<'a> = &'a [[u8; 2]];
 pub(crate) type Pairs<'a> = &'a [[u8; 8]];
 
+/// As many codes as there can be, 2 to 2,049. What is kept for each stands at the code modulo this, which spares the test of an
+/// index.
+pub(crate) const CODES: usize = 2048;
+
 pub(crate) fn code(stored: [u8; 2]) -> usize {
     usize::from(u16::from_le_bytes(stored))
 }

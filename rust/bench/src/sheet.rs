@@ -1,13 +1,19 @@
 //! The sheet: refusals 2, 3 and 4.
 
-use crate::read::{code, codes, fault, number, pair, rises, Codes, Fault, Pairs};
+use crate::read::{code, codes, fault, pair, rises, Codes, Fault, Pairs, CODES};
 
 /// A valid sheet.
 pub(crate) struct Sheet<'a> {
     bytes: &'a [u8],
-    costs: &'a [[u8; 4]],
+    variable_count: usize,
+    /// What falsifying the literal with each code costs: the variable's cost where it is negative, else nothing.
+    prices: [u32; CODES],
     pairs: Pairs<'a>,
 }
+
+/// As many variables and clauses as a sheet may have.
+const VARIABLES: usize = 1024;
+const CLAUSES: usize = 4096;
 
 impl<'a> Sheet<'a> {
     pub fn read(bytes: &'a [u8]) -> Result<Self, Fault> {
@@ -27,21 +33,26 @@ impl<'a> Sheet<'a> {
     fn head(bytes: &'a [u8]) -> Option<Self> {
         let ([a, b, c, d], rest) = bytes.split_first_chunk::<4>()?;
         let (n, m) = (code([*a, *b]), code([*c, *d]));
-        if !(1..=1024).contains(&n) || m > 4096 {
+        if !(1..=VARIABLES).contains(&n) || m > CLAUSES {
             return None;
         }
-        let (costs, rest) = rest.split_at_checked(4 * n)?;
+        let (stored, rest) = rest.split_at_checked(4 * n)?;
+        let mut prices = [0; CODES];
+        for (index, &cost) in stored.as_chunks().0.iter().enumerate() {
+            prices[(2 * index + 3) % CODES] = u32::from_le_bytes(cost);
+        }
         let table = rest.get(..8 * m)?;
         Some(Sheet {
             bytes,
-            costs: costs.as_chunks().0,
+            variable_count: n,
+            prices,
             pairs: table.as_chunks().0,
         })
     }
 
     fn check_pairs(&self) -> Result<(), Fault> {
         let count = self.pairs.len();
-        let mut next = 4 + 4 * self.costs.len() + 8 * count;
+        let mut next = 4 + 4 * self.variable_count + 8 * count;
         for (index, &stored) in self.pairs.iter().enumerate() {
             let (offset, length) = pair(stored);
             if offset != next {
@@ -56,7 +67,7 @@ impl<'a> Sheet<'a> {
     }
 
     pub fn variable_count(&self) -> usize {
-        self.costs.len()
+        self.variable_count
     }
 
     pub fn clause_count(&self) -> usize {
@@ -75,13 +86,13 @@ impl<'a> Sheet<'a> {
 
     /// What the variable of a code costs.
     pub fn cost(&self, code: usize) -> u64 {
-        number(self.costs[code / 2 - 1]) as u64
+        u64::from(self.prices[(code | 1) % CODES])
     }
 
-    /// What falsifying the list costs: its negative literals become true variables.
+    /// What falsifying the list costs: its negative literals become true variables. Which they are cannot be guessed, so that
+    /// there is no branch.
     pub fn negative_cost(&self, list: Codes) -> u64 {
-        let codes = list.iter().map(|&stored| code(stored));
-        let negative = codes.filter(|code| code % 2 == 1);
-        negative.map(|code| self.cost(code)).sum()
+        let prices = list.iter().map(|&stored| self.prices[code(stored) % CODES]);
+        prices.map(u64::from).sum()
     }
 }
