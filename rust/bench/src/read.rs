@@ -38,15 +38,37 @@ pub(crate) fn codes(bytes: &[u8]) -> Codes<'_> {
     bytes.as_chunks().0
 }
 
-/// The variables rise strictly from 1 to n at most. No early exit: a loop without one is faster, and a fault ends it all.
+/// The variables rise strictly from 1 to n at most.
 pub(crate) fn rises(list: Codes, n: usize) -> bool {
-    let mut before = 1;
-    let mut fine = true;
-    for &stored in list {
-        let code = code(stored);
-        fine &= code > before;
-        // The greater code of the same variable, so that one comparison tells whether the variable rises.
-        before = code | 1;
+    let ([first, next @ ..], [before @ .., last]) = (list, list) else {
+        return true;
+    };
+    let mut wrong = [0; LANES];
+    if let (Some(a), Some(b)) = (before.last_chunk(), next.last_chunk()) {
+        // Eight at a time, and the last eight once more where they are not a whole number of times eight.
+        compare(&mut wrong, a, b);
+        for (a, b) in before.as_chunks().0.iter().zip(next.as_chunks().0) {
+            compare(&mut wrong, a, b);
+        }
+    } else {
+        for (a, b) in before.iter().zip(next) {
+            wrong[0] |= falls(*a, *b);
+        }
     }
-    fine && before <= 2 * n + 1
+    wrong == [0; LANES] && code(*first) > 1 && code(*last) <= 2 * n + 1
+}
+
+/// How many codes are compared at once: the compiler makes one instruction of them.
+const LANES: usize = 8;
+
+fn compare(wrong: &mut [u16; LANES], before: &[[u8; 2]; LANES], next: &[[u8; 2]; LANES]) {
+    for lane in 0..LANES {
+        wrong[lane] |= falls(before[lane], next[lane]);
+    }
+}
+
+/// Not 0 where the next code is not of a greater variable: it has to be above the greater code of this one.
+fn falls(before: [u8; 2], next: [u8; 2]) -> u16 {
+    let rises = u16::from_le_bytes(next) > u16::from_le_bytes(before) | 1;
+    u16::from(!rises)
 }
