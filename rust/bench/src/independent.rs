@@ -1,7 +1,7 @@
-//! Kind 3: refusals 14 and 15. The four conditions on a clause are one refusal at one place, so that one look at each
+//! Kind 3: refusals 8, 9, 14 and 15. The four conditions on a clause are one refusal at one place, so that one look at each
 //! literal settles them, and gives the least cost as well.
 
-use crate::read::{code, number, Codes, CODES};
+use crate::read::{code, number, rises, Codes, CODES};
 use crate::record::NONE;
 use crate::sheet::Sheet;
 use crate::step::CostClause;
@@ -42,17 +42,27 @@ pub(crate) fn check(
     stamps: &mut Stamps,
     sheet: &Sheet,
     claim: &CostClause,
-    cited: &[[u8; 4]],
+    tail: &[u8],
     k: usize,
 ) -> Result<(), u64> {
+    let (cited, []) = tail.as_chunks() else {
+        return Err(8);
+    };
+    if cited.is_empty() || !rises(claim.literals, sheet.variable_count()) {
+        return Err(8);
+    }
+    if !are_clauses(cited, sheet.clause_count()) {
+        return Err(9);
+    }
     // A record of k steps has 8 k bytes at least, so that twice the number fits.
     let settled = 2 * k as u32;
+    let mut sum = 0;
     for &stored in claim.literals {
         let code = code(stored);
         stamps.0[code % CODES] = settled;
         stamps.0[(code ^ 1) % CODES] = settled + 1;
+        sum += sheet.price(code);
     }
-    let mut sum = sheet.negative_cost(claim.literals);
     for &stored in cited {
         let clause = sheet.clause(number(stored));
         sum += stamps.least(sheet, clause, settled.into()).ok_or(14u64)?;
@@ -61,4 +71,14 @@ pub(crate) fn check(
         return Err(15);
     }
     Ok(())
+}
+
+/// The numbers rise from 1 to m at most.
+fn are_clauses(cited: &[[u8; 4]], m: usize) -> bool {
+    let mut before = 0;
+    cited.iter().all(|&stored| {
+        let rises = number(stored) > before;
+        before = number(stored);
+        rises
+    }) && before <= m
 }

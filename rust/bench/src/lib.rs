@@ -6,6 +6,7 @@
 
 #![forbid(unsafe_code)]
 
+mod copy;
 mod independent;
 mod judge;
 mod plan;

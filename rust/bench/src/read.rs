@@ -38,6 +38,23 @@ pub(crate) fn codes(bytes: &[u8]) -> Codes<'_> {
     bytes.as_chunks().0
 }
 
+/// How many codes are gone through at once. Where a loop over single codes ends cannot be guessed; where one over eight ends
+/// mostly can, and the compiler compares eight by one instruction.
+const LANES: usize = 8;
+
+/// Looks at every code of a list, at some of them twice: the last eight come once more, so that there is no rest.
+#[inline]
+pub(crate) fn each(list: Codes, mut look: impl FnMut(usize)) {
+    let mut all = |codes: Codes| codes.iter().for_each(|&stored| look(code(stored)));
+    let Some(last) = list.last_chunk::<LANES>() else {
+        return all(list);
+    };
+    for eight in list.as_chunks::<LANES>().0 {
+        all(eight);
+    }
+    all(last);
+}
+
 /// The variables rise strictly from 1 to n at most.
 pub(crate) fn rises(list: Codes, n: usize) -> bool {
     let ([first, next @ ..], [before @ .., last]) = (list, list) else {
@@ -45,7 +62,6 @@ pub(crate) fn rises(list: Codes, n: usize) -> bool {
     };
     let mut wrong = [0; LANES];
     if let (Some(a), Some(b)) = (before.last_chunk(), next.last_chunk()) {
-        // Eight at a time, and the last eight once more where they are not a whole number of times eight.
         compare(&mut wrong, a, b);
         for (a, b) in before.as_chunks().0.iter().zip(next.as_chunks().0) {
             compare(&mut wrong, a, b);
@@ -57,9 +73,6 @@ pub(crate) fn rises(list: Codes, n: usize) -> bool {
     }
     wrong == [0; LANES] && code(*first) > 1 && code(*last) <= 2 * n + 1
 }
-
-/// How many codes are compared at once: the compiler makes one instruction of them.
-const LANES: usize = 8;
 
 fn compare(wrong: &mut [u16; LANES], before: &[[u8; 2]; LANES], next: &[[u8; 2]; LANES]) {
     for lane in 0..LANES {

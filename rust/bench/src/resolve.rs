@@ -1,7 +1,7 @@
 //! Kind 4, in two ways. Each tells whether the three lists are a resolution; which refusal applies where they are not is
 //! looked for afterwards, since a fault ends the judgement.
 
-use crate::read::{code, Codes};
+use crate::read::{code, each, Codes, CODES};
 
 /// A way to tell a resolution. All lists rise strictly, in variables from 1 to 1,024.
 pub trait Resolve {
@@ -64,67 +64,68 @@ impl Resolve for Merge {
     }
 }
 
-/// Marks the codes of d, then looks up those of a and b and marks them anew. Each step's marks are above those of the steps
-/// before it, so that none has to be taken away.
+/// Marks the codes of d, then looks up those of a and b. Each step's marks are above those of the steps before it, so that none
+/// has to be taken away. There is no early exit and no branch at the pivot: a fault ends it all, and where the pivot stands
+/// cannot be guessed. A second look at a code changes nothing.
 pub struct Marks {
-    marks: [u32; SIZE],
-    /// The greatest mark so far. A record of k steps has 8 k bytes at least, so that two marks for each fit.
+    marks: [u32; CODES],
+    /// The greatest mark so far, an even number, or that and 1. A record of k steps has 8 k bytes at least, so that two marks
+    /// for each fit into 31 bits.
     last: u32,
 }
 
-/// A power of 2 above every code, so that a mask spares the test of an index.
-const SIZE: usize = 4096;
+/// What sets the pivot's mark apart.
+const PIVOT: u32 = 1 << 31;
 
 impl Marks {
     fn mark(&mut self, code: usize) -> &mut u32 {
-        &mut self.marks[code % SIZE]
-    }
-
-    /// How many literals of the list have the mark `least`, or nothing where `out` is not in it or another literal has less;
-    /// then they have the next one. There is no early exit and no branch at `out`: a fault ends it all, and where `out`
-    /// stands cannot be guessed.
-    fn check_off(&mut self, list: Codes, out: usize, least: u32) -> Option<usize> {
-        *self.mark(out) = least + 2;
-        let mut marked = true;
-        let mut fresh = 0;
-        for &stored in list {
-            let mark = self.mark(code(stored));
-            marked &= *mark >= least;
-            fresh += usize::from(*mark == least);
-            *mark = least + 1;
-        }
-        let met = *self.mark(out) != least + 2;
-        *self.mark(out) = 0;
-        (marked && met).then_some(fresh)
+        &mut self.marks[code % CODES]
     }
 }
 
 impl Resolve for Marks {
     fn new() -> Self {
         Marks {
-            marks: [0; SIZE],
+            marks: [0; CODES],
             last: 0,
         }
     }
 
     fn resolves(&mut self, a: Codes, b: Codes, pivot: usize, d: Codes) -> bool {
-        // No list holds a pivot above 1,024, and its mark would be another literal's.
-        if 2 * pivot + 1 >= SIZE {
+        let (up, down) = (2 * pivot, 2 * pivot + 1);
+        // No list holds another pivot, and its mark would be another literal's.
+        if !(2..CODES + 2).contains(&up) {
             return false;
         }
-        let least = self.last + 1;
-        self.last = least + 1;
-        for &stored in d {
-            *self.mark(code(stored)) = least;
+        self.last += 2;
+        let of_d = self.last;
+        each(d, |code| *self.mark(code) = of_d);
+        // In what the marks of a differ from those of d: the pivot's in one bit, all others in none, or after a first look in
+        // the lowest.
+        *self.mark(up) = of_d | PIVOT;
+        let mut differ = 0;
+        each(a, |code| {
+            let mark = self.mark(code);
+            differ |= *mark ^ of_d;
+            *mark = of_d + 1;
+        });
+        *self.mark(up) = 0;
+        if differ | 1 != PIVOT | 1 {
+            return false;
         }
-        let Some(from_a) = self.check_off(a, 2 * pivot, least) else {
-            return false;
-        };
-        let Some(from_b) = self.check_off(b, 2 * pivot + 1, least) else {
-            return false;
-        };
-        // As many as d has lost their first mark, so each of them is a premise's.
-        from_a + from_b == d.len()
+        // Those of b that are in a too have its mark, which is odd, until they are counted.
+        *self.mark(down) = of_d | PIVOT;
+        let mut differ = 0;
+        let mut shared = 0;
+        each(b, |code| {
+            let mark = self.mark(code);
+            differ |= *mark ^ of_d;
+            shared += *mark % 2;
+            *mark = of_d;
+        });
+        *self.mark(down) = 0;
+        // All of a and b but the pivot are in d. As many as d has: each of its literals is a premise's.
+        differ | 1 == PIVOT | 1 && a.len() + b.len() - 2 - shared as usize == d.len()
     }
 }
 

@@ -6,7 +6,7 @@ use crate::read::{code, codes, fault, pair, rises, Codes, Fault, Pairs, CODES};
 pub(crate) struct Sheet<'a> {
     bytes: &'a [u8],
     variable_count: usize,
-    /// What falsifying the literal with each code costs: the variable's cost where it is negative, else nothing.
+    /// What falsifying the literal with each code costs.
     prices: [u32; CODES],
     pairs: Pairs<'a>,
 }
@@ -84,15 +84,21 @@ impl<'a> Sheet<'a> {
         codes(self.body(k))
     }
 
-    /// What the variable of a code costs.
-    pub fn cost(&self, code: usize) -> u64 {
-        u64::from(self.prices[(code | 1) % CODES])
+    /// The literals of clause k, if there is one.
+    pub fn find_clause(&self, k: usize) -> Option<Codes<'a>> {
+        (1..=self.clause_count())
+            .contains(&k)
+            .then(|| self.clause(k))
     }
 
-    /// What falsifying the list costs: its negative literals become true variables. Which they are cannot be guessed, so that
-    /// there is no branch.
-    pub fn negative_cost(&self, list: Codes) -> u64 {
-        let prices = list.iter().map(|&stored| self.prices[code(stored) % CODES]);
-        prices.map(u64::from).sum()
+    /// What falsifying a literal costs: its variable's cost where it is negative, and so becomes true, else nothing. Which of
+    /// both cannot be guessed, so that there is no branch.
+    pub fn price(&self, code: usize) -> u64 {
+        u64::from(self.prices[code % CODES])
+    }
+
+    /// What the variable of a code costs.
+    pub fn cost(&self, code: usize) -> u64 {
+        self.price(code | 1)
     }
 }

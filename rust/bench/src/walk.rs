@@ -1,19 +1,18 @@
 //! The steps: refusals 7, 8, 9 and 12 to 18, in one pass over the pairs.
 
+use crate::copy;
 use crate::independent::{self, Stamps};
-use crate::read::{fault, pair, Fault};
-use crate::record::{Record, NONE};
+use crate::read::{code, fault, number, pair, rises, Fault};
+use crate::record::Record;
 use crate::resolve::{has_pivot, Resolve};
 use crate::sheet::Sheet;
-use crate::step::{self, CostClause, Reason, Step};
+use crate::step::CostClause;
 
 pub(crate) struct Walk<'a, R> {
     sheet: &'a Sheet<'a>,
     record: &'a Record<'a>,
     resolve: R,
     stamps: Stamps,
-    /// Of the latest step that was found good.
-    last: CostClause<'a>,
 }
 
 impl<'a, R: Resolve> Walk<'a, R> {
@@ -23,7 +22,6 @@ impl<'a, R: Resolve> Walk<'a, R> {
             record,
             resolve: R::new(),
             stamps: Stamps::new(),
-            last: CostClause::default(),
         }
     }
 
@@ -41,46 +39,53 @@ impl<'a, R: Resolve> Walk<'a, R> {
             if found.is_ok() {
                 // A body that reaches past the end makes the pairs faulty, here or later: then nothing else is told.
                 let body = record.bytes.get(offset..next).unwrap_or(&[]);
-                found = self.step(body, index + 1);
+                found = self
+                    .step(body, index + 1)
+                    .or_else(|number| fault(number, index + 1));
             }
         }
         if next != record.bytes.len() {
             return fault(7, record.pairs.len());
         }
-        found.map(|()| self.last)
-    }
-
-    fn step(&mut self, body: &'a [u8], k: usize) -> Result<(), Fault> {
-        let Some(step) = step::read(body, self.sheet.variable_count()) else {
-            return fault(8, k);
-        };
-        if !step::cites(&step.reason, self.sheet, k) {
-            return fault(9, k);
-        }
-        self.last = step.claim;
-        self.kind(&step, k).or_else(|number| fault(number, k))
+        found.map(|()| self.earlier(record.pairs.len()))
     }
 
     /// The refusal's number where the step is not what its kind gives.
-    fn kind(&mut self, step: &Step, k: usize) -> Result<(), u64> {
-        let claim = &step.claim;
-        match step.reason {
-            Reason::Copy(clause) => {
-                let same = claim.literals == self.sheet.clause(clause) && claim.bound == NONE;
-                same.then_some(()).ok_or(12)
-            }
-            Reason::Cost => {
-                let same = claim.bound == self.sheet.negative_cost(claim.literals);
-                same.then_some(()).ok_or(13)
-            }
-            Reason::Independent(cited) => {
-                independent::check(&mut self.stamps, self.sheet, claim, cited, k)
-            }
-            Reason::Resolution { a, b, pivot } => self.resolution(claim, a, b, pivot),
+    fn step(&mut self, body: &'a [u8], k: usize) -> Result<(), u64> {
+        let (claim, tail) = CostClause::read(body).ok_or(8u64)?;
+        match *body {
+            [1, 0, ..] => copy::check(self.sheet, &claim, tail),
+            [2, 0, ..] => self.cost(&claim, tail),
+            [3, 0, ..] => independent::check(&mut self.stamps, self.sheet, &claim, tail, k),
+            [4, 0, ..] => self.resolution(&claim, tail, k),
+            _ => Err(8),
         }
     }
 
-    fn resolution(&mut self, d: &CostClause, a: usize, b: usize, pivot: usize) -> Result<(), u64> {
+    fn cost(&self, claim: &CostClause, tail: &[u8]) -> Result<(), u64> {
+        if !tail.is_empty() || !rises(claim.literals, self.sheet.variable_count()) {
+            return Err(8);
+        }
+        let literals = claim.literals.iter();
+        let prices = literals.map(|&stored| self.sheet.price(code(stored)));
+        if claim.bound != prices.sum() {
+            return Err(13);
+        }
+        Ok(())
+    }
+
+    fn resolution(&mut self, d: &CostClause, tail: &[u8], k: usize) -> Result<(), u64> {
+        let (&[a, b], &[p, q]) = tail.as_chunks() else {
+            return Err(8);
+        };
+        if !rises(d.literals, self.sheet.variable_count()) {
+            return Err(8);
+        }
+        let (a, b) = (number(a), number(b));
+        if !(1..k).contains(&a) || !(1..k).contains(&b) {
+            return Err(9);
+        }
+        let pivot = code([p, q]);
         let (a, b) = (self.earlier(a), self.earlier(b));
         if !self
             .resolve
@@ -99,6 +104,6 @@ impl<'a, R: Resolve> Walk<'a, R> {
     fn earlier(&self, k: usize) -> CostClause<'a> {
         let (offset, _) = pair(self.record.pairs[k - 1]);
         let bytes = &self.record.bytes[offset..];
-        CostClause::read(bytes).map_or_else(CostClause::default, |(claim, _)| claim)
+        CostClause::read(bytes).expect("a step in form").0
     }
 }
