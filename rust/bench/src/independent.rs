@@ -20,7 +20,6 @@ impl Stamps {
     fn least(&mut self, sheet: &Sheet, clause: Codes, settled: i64) -> Option<u64> {
         let mut least = NONE;
         let mut worst = 0;
-        let mut unsettled = 0;
         for &stored in clause {
             let code = code(stored);
             let mark = &mut self.0[code % CODES];
@@ -28,12 +27,11 @@ impl Stamps {
             let state = i64::from(*mark) - settled;
             worst = worst.max(state);
             let free = state >> 63;
-            unsettled |= code as i64 & free;
             *mark = (settled - free) as u32;
-            least = least.min(sheet.cost(code) | !free as u64);
+            least = least.min(sheet.free_cost(code) | !free as u64);
         }
-        let fits = worst == 0 && unsettled % 2 == 0;
-        (fits && least != NONE).then_some(least)
+        let fits = worst == 0 && least != 0;
+        (fits && least != NONE).then(|| least - 1)
     }
 }
 

@@ -8,6 +8,8 @@ pub(crate) struct Sheet<'a> {
     variable_count: usize,
     /// What falsifying the literal with each code costs.
     prices: [u32; CODES],
+    /// What each costs as an unsettled literal.
+    free_costs: [u64; CODES],
     pairs: Pairs<'a>,
 }
 
@@ -38,14 +40,18 @@ impl<'a> Sheet<'a> {
         }
         let (stored, rest) = rest.split_at_checked(4 * n)?;
         let mut prices = [0; CODES];
+        let mut free_costs = [0; CODES];
         for (index, &cost) in stored.as_chunks().0.iter().enumerate() {
-            prices[(2 * index + 3) % CODES] = u32::from_le_bytes(cost);
+            let (cost, positive) = (u32::from_le_bytes(cost), 2 * index + 2);
+            free_costs[positive % CODES] = u64::from(cost) + 1;
+            prices[(positive + 1) % CODES] = cost;
         }
         let table = rest.get(..8 * m)?;
         Some(Sheet {
             bytes,
             variable_count: n,
             prices,
+            free_costs,
             pairs: table.as_chunks().0,
         })
     }
@@ -95,6 +101,11 @@ impl<'a> Sheet<'a> {
     /// both cannot be guessed, so that there is no branch.
     pub fn price(&self, code: usize) -> u64 {
         u64::from(self.prices[code % CODES])
+    }
+
+    /// What a literal costs where it stands unsettled in a cited clause, plus 1; 0 for a negative one, which may not.
+    pub fn free_cost(&self, code: usize) -> u64 {
+        self.free_costs[code % CODES]
     }
 
     /// What the variable of a code costs.
