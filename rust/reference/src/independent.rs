@@ -1,9 +1,9 @@
 //! Kind 3, independent sets (document 001, section 5.1.1): refusals 14 and 15.
 
+use crate::cost_clause::CostClause;
 use crate::literal::Literal;
 use crate::refusal::{DEPENDENCE, INDEPENDENT_BOUND};
 use crate::sheet::Sheet;
-use crate::steps::CostClause;
 use std::collections::BTreeSet;
 
 /// The partial assignment under which every literal of a cost clause is false. Its variables are document 01's

@@ -1,9 +1,10 @@
 //! The judgement: the refusals in document 01's order, and the acceptance.
 
+use crate::cost_clause::CostClause;
 use crate::record::{self, Record};
 use crate::refusal::{refuse, Refusal, BROKEN_RULE, CLAIMED_COST, CLOSE, OVERSIZE};
 use crate::sheet::{self, Sheet};
-use crate::steps::{self, CostClause};
+use crate::steps;
 use crate::Answer;
 
 /// The longest file, in bytes, that is not oversize.

@@ -20,6 +20,7 @@
 
 mod assignment;
 pub mod brute;
+mod cost_clause;
 mod independent;
 mod judge;
 mod layout;

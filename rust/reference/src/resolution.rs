@@ -1,8 +1,8 @@
 //! Kind 4, cost resolution (document 001, definition 8): refusals 16, 17 and 18.
 
+use crate::cost_clause::CostClause;
 use crate::literal::Literal;
 use crate::refusal::{LESSER_BOUND, PIVOT, RESOLVENT};
-use crate::steps::CostClause;
 use std::collections::BTreeSet;
 
 /// Refusals 16 to 18. The pivot is any number of 2 bytes: one that is no variable of the sheet stands in no

@@ -1,5 +1,6 @@
 //! One step: its form, its citations, and the numbers of its kind (refusals 8, 9 and 12 to 18).
 
+use crate::cost_clause::CostClause;
 use crate::independent;
 use crate::layout::number;
 use crate::literal::{read_literals, Literal};
@@ -8,13 +9,6 @@ use crate::resolution;
 use crate::sheet::Sheet;
 use crate::NONE;
 use std::collections::BTreeSet;
-
-/// A cost clause (document 01: statement): to satisfy the sheet with all these literals false costs at least the
-/// bound, and cannot be done if the bound is [`NONE`].
-pub(crate) struct CostClause {
-    pub literals: BTreeSet<Literal>,
-    pub bound: u64,
-}
 
 /// What a step rests on: its kind with the tail of that kind.
 pub(crate) enum Inference {
