@@ -59,6 +59,7 @@ fn example(name: &str) -> [Vec<u8>; 3] {
 
 #[test]
 fn every_example_prints_its_line() {
+    let mut printed = 0;
     for entry in fs::read_dir(root().join("examples")).unwrap() {
         let entry = entry.unwrap();
         if entry.path().is_dir() {
@@ -68,8 +69,10 @@ fn every_example_prints_its_line() {
                 .with("sheet", &sheet)
                 .with("record", &record);
             assert_eq!(folder.printed().as_bytes(), line, "{name}");
+            printed += 1;
         }
     }
+    assert_eq!(printed, 16, "A1 to A8, B1, B2, C1 to C4, D and E");
 }
 
 #[test]

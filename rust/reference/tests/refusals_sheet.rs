@@ -29,7 +29,7 @@ fn refusal_1_by_the_length_of_either_file() {
 
 /// The bytes are never looked at, so the system need not supply the memory behind them.
 #[test]
-#[ignore = "reserves 4 GiB of zeroed memory, which a small machine refuses"]
+#[ignore = "needs 4 GiB of memory"]
 fn refusal_1_comes_before_every_fault_of_the_bytes() {
     let too_long = vec![0_u8; 4_294_967_296];
     let longest = &too_long[1..];
