@@ -1,7 +1,9 @@
 /* The proved plan checker. Link with the static library that `rt staticlib exports` writes.
  *
- * A file is its bytes and their number; any bytes are judged, also none. The two calls only read the files, keep nothing,
- * and may be made from several threads at once. */
+ * A file is its bytes and their number; any bytes are judged, also none: with the number 0 nothing is read through the
+ * pointer, which may be NULL. The two calls only read the files, keep nothing, and may be made from several threads at once.
+ * The two files may overlap, or be one. The array that a call writes, answer or part, may not overlap either file, nor the
+ * array of a call that is made at the same time; it may not be NULL. */
 #ifndef PLAN_H
 #define PLAN_H
 

@@ -101,3 +101,38 @@ pub fn show<'a>(sheet: &'a [u8], record: &'a [u8], step: u32) -> &'a [u8] {
     let file = if in_sheet == 1 { sheet } else { record };
     &file[start..start + size]
 }
+
+#[cfg(test)]
+mod tests {
+    use super::*;
+    use std::ptr::null;
+
+    /// Both calls, on files by pointer and length.
+    fn called(sheet: (*const u8, usize), record: (*const u8, usize)) -> ([u64; 5], [u64; 3]) {
+        // Not what may be answered, so that every number is seen to be written.
+        let (mut answer, mut part) = ([7; 5], [7; 3]);
+        // SAFETY: each pointer has that many bytes behind it, none where it is null, and the arrays have their places.
+        unsafe {
+            plan_judge(sheet.0, sheet.1, record.0, record.1, answer.as_mut_ptr());
+            plan_show(sheet.0, sheet.1, record.0, record.1, 1, part.as_mut_ptr());
+        }
+        (answer, part)
+    }
+
+    #[test]
+    fn null_is_a_file_of_no_bytes() {
+        let nothing = (null(), 0);
+        let sheet = include_bytes!("../../../examples/B1/sheet");
+        let record = include_bytes!("../../../examples/B1/record");
+        let (sheet, record) = (
+            (sheet.as_ptr(), sheet.len()),
+            (record.as_ptr(), record.len()),
+        );
+        // One step without literals: they end where the record does.
+        let end = record.1 as u64;
+        assert_eq!(called(sheet, record), ([0, 0, 0, 0, 1], [0, end, 0]));
+        assert_eq!(called(nothing, nothing), ([2, 0, 0, 0, 0], [0; 3]));
+        assert_eq!(called(nothing, record), ([2, 0, 0, 0, 0], [0; 3]));
+        assert_eq!(called(sheet, nothing), ([5, 0, 0, 0, 0], [0; 3]));
+    }
+}
