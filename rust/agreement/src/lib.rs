@@ -27,7 +27,7 @@ pub struct Case {
 /// The first small samples of the stream, as many of each number, `count` in all or fewer where a number is rare.
 pub fn choose(seed: u64, count: usize) -> Vec<Case> {
     let share = count.div_ceil(NUMBERS.len());
-    let mut met = [0usize; 20];
+    let mut met = [0usize; samples::NUMBERS];
     let mut cases = Vec::new();
     for sample in samples::stream(seed).take(TRIES) {
         if cases.len() >= count {

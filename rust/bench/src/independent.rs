@@ -2,9 +2,10 @@
 //! literal settles them, and gives the least cost as well.
 
 use crate::read::{code, number, rises, Codes, CODES};
-use crate::record::NONE;
+use crate::refusal;
 use crate::sheet::Sheet;
 use crate::step::CostClause;
+use proved::NONE;
 
 /// A mark for each code: step k's is 2 k for a literal of the step, which is false, and 1 more for one that is true or that a
 /// cited clause uses. So no mark has to be taken away after a step.
@@ -44,13 +45,13 @@ pub(crate) fn check(
     k: usize,
 ) -> Result<(), u64> {
     let (cited, []) = tail.as_chunks() else {
-        return Err(8);
+        return Err(refusal::STEP_FORM);
     };
     if cited.is_empty() || !rises(claim.literals, sheet.variable_count()) {
-        return Err(8);
+        return Err(refusal::STEP_FORM);
     }
     if !are_clauses(cited, sheet.clause_count()) {
-        return Err(9);
+        return Err(refusal::CITATION);
     }
     // A record of k steps has 8 k bytes at least, so that twice the number fits.
     let settled = 2 * k as u32;
@@ -63,10 +64,12 @@ pub(crate) fn check(
     }
     for &stored in cited {
         let clause = sheet.clause(number(stored));
-        sum += stamps.least(sheet, clause, settled.into()).ok_or(14u64)?;
+        sum += stamps
+            .least(sheet, clause, settled.into())
+            .ok_or(refusal::DEPENDENCE)?;
     }
     if claim.bound != sum {
-        return Err(15);
+        return Err(refusal::INDEPENDENT_BOUND);
     }
     Ok(())
 }

@@ -3,6 +3,7 @@
 use crate::plan;
 use crate::read::{fault, Fault};
 use crate::record::Record;
+use crate::refusal;
 use crate::resolve::Resolve;
 use crate::sheet::Sheet;
 use crate::walk::Walk;
@@ -23,7 +24,7 @@ pub fn judge<R: Resolve>(sheet: &[u8], record: &[u8]) -> Answer {
 
 fn accept<R: Resolve>(sheet: &[u8], record: &[u8]) -> Result<Answer, Fault> {
     if sheet.len().max(record.len()) as u64 > LONGEST {
-        return fault(1, 0);
+        return fault(refusal::OVERSIZE, 0);
     }
     let sheet = Sheet::read(sheet)?;
     let record = Record::read(record, sheet.variable_count())?;
@@ -31,7 +32,7 @@ fn accept<R: Resolve>(sheet: &[u8], record: &[u8]) -> Result<Answer, Fault> {
     let last = Walk::<R>::new(&sheet, &record).run(plan)?;
     let step_count = record.pairs.len();
     if !last.literals.is_empty() || last.bound < record.claim {
-        return fault(19, step_count);
+        return fault(refusal::CLOSE, step_count);
     }
     Ok(Answer {
         number: 0,

@@ -12,6 +12,7 @@ mod judge;
 mod plan;
 mod read;
 mod record;
+mod refusal;
 mod resolve;
 mod sheet;
 mod step;

@@ -1,8 +1,8 @@
 //! The record's head and assignment: refusals 5 and 6.
 
 use crate::read::{fault, number, Fault, Pairs};
-
-pub(crate) const NONE: u64 = u64::MAX;
+use crate::refusal;
+use proved::NONE;
 
 /// A record whose head is in order; its pairs are not looked at yet.
 pub(crate) struct Record<'a> {
@@ -15,7 +15,7 @@ pub(crate) struct Record<'a> {
 impl<'a> Record<'a> {
     pub fn read(bytes: &'a [u8], n: usize) -> Result<Self, Fault> {
         let Some(record) = Self::head(bytes, n) else {
-            return fault(5, 0);
+            return fault(refusal::RECORD_HEAD, 0);
         };
         let spare = match n % 8 {
             0 => 0,
@@ -24,7 +24,7 @@ impl<'a> Record<'a> {
         let none_with_bits =
             record.claim == NONE && record.assignment.iter().any(|&byte| byte != 0);
         if spare != 0 || none_with_bits {
-            return fault(6, 0);
+            return fault(refusal::STRAY_BIT, 0);
         }
         Ok(record)
     }

@@ -1,6 +1,7 @@
 //! The sheet: refusals 2, 3 and 4.
 
 use crate::read::{code, codes, fault, pair, rises, Codes, Fault, Pairs, CODES};
+use crate::refusal;
 
 /// A valid sheet.
 pub(crate) struct Sheet<'a> {
@@ -20,13 +21,13 @@ const CLAUSES: usize = 4096;
 impl<'a> Sheet<'a> {
     pub fn read(bytes: &'a [u8]) -> Result<Self, Fault> {
         let Some(sheet) = Self::head(bytes) else {
-            return fault(2, 0);
+            return fault(refusal::SHEET_HEAD, 0);
         };
         sheet.check_pairs()?;
         for k in 1..=sheet.clause_count() {
             let clause = sheet.body(k);
             if clause.len() % 2 != 0 || !rises(codes(clause), sheet.variable_count()) {
-                return fault(4, k);
+                return fault(refusal::RULE_FORM, k);
             }
         }
         Ok(sheet)
@@ -62,12 +63,12 @@ impl<'a> Sheet<'a> {
         for (index, &stored) in self.pairs.iter().enumerate() {
             let (offset, length) = pair(stored);
             if offset != next {
-                return fault(3, index + 1);
+                return fault(refusal::SHEET_PAIRS, index + 1);
             }
             next = offset + length;
         }
         if next != self.bytes.len() {
-            return fault(3, count);
+            return fault(refusal::SHEET_PAIRS, count);
         }
         Ok(())
     }

@@ -4,6 +4,7 @@ use crate::copy;
 use crate::independent::{self, Stamps};
 use crate::read::{code, fault, number, pair, rises, Fault};
 use crate::record::Record;
+use crate::refusal;
 use crate::resolve::{has_pivot, Resolve};
 use crate::sheet::Sheet;
 use crate::step::CostClause;
@@ -33,7 +34,7 @@ impl<'a, R: Resolve> Walk<'a, R> {
         for (index, &stored) in record.pairs.iter().enumerate() {
             let (offset, length) = pair(stored);
             if offset != next {
-                return fault(7, index + 1);
+                return fault(refusal::RECORD_PAIRS, index + 1);
             }
             next = offset + length;
             if found.is_ok() {
@@ -45,45 +46,45 @@ impl<'a, R: Resolve> Walk<'a, R> {
             }
         }
         if next != record.bytes.len() {
-            return fault(7, record.pairs.len());
+            return fault(refusal::RECORD_PAIRS, record.pairs.len());
         }
         found.map(|()| self.earlier(record.pairs.len()))
     }
 
     /// The refusal's number where the step is not what its kind gives.
     fn step(&mut self, body: &'a [u8], k: usize) -> Result<(), u64> {
-        let (claim, tail) = CostClause::read(body).ok_or(8u64)?;
+        let (claim, tail) = CostClause::read(body).ok_or(refusal::STEP_FORM)?;
         match *body {
             [1, 0, ..] => copy::check(self.sheet, &claim, tail),
             [2, 0, ..] => self.cost(&claim, tail),
             [3, 0, ..] => independent::check(&mut self.stamps, self.sheet, &claim, tail, k),
             [4, 0, ..] => self.resolution(&claim, tail, k),
-            _ => Err(8),
+            _ => Err(refusal::STEP_FORM),
         }
     }
 
     fn cost(&self, claim: &CostClause, tail: &[u8]) -> Result<(), u64> {
         if !tail.is_empty() || !rises(claim.literals, self.sheet.variable_count()) {
-            return Err(8);
+            return Err(refusal::STEP_FORM);
         }
         let literals = claim.literals.iter();
         let prices = literals.map(|&stored| self.sheet.price(code(stored)));
         if claim.bound != prices.sum() {
-            return Err(13);
+            return Err(refusal::COST_BOUND);
         }
         Ok(())
     }
 
     fn resolution(&mut self, d: &CostClause, tail: &[u8], k: usize) -> Result<(), u64> {
         let (&[a, b], &[p, q]) = tail.as_chunks() else {
-            return Err(8);
+            return Err(refusal::STEP_FORM);
         };
         if !rises(d.literals, self.sheet.variable_count()) {
-            return Err(8);
+            return Err(refusal::STEP_FORM);
         }
         let (a, b) = (number(a), number(b));
         if !(1..k).contains(&a) || !(1..k).contains(&b) {
-            return Err(9);
+            return Err(refusal::CITATION);
         }
         let pivot = code([p, q]);
         let (a, b) = (self.earlier(a), self.earlier(b));
@@ -92,10 +93,14 @@ impl<'a, R: Resolve> Walk<'a, R> {
             .resolves(a.literals, b.literals, pivot, d.literals)
         {
             let pivot_is_there = has_pivot(a.literals, b.literals, pivot);
-            return Err(if pivot_is_there { 17 } else { 16 });
+            return Err(if pivot_is_there {
+                refusal::RESOLVENT
+            } else {
+                refusal::PIVOT
+            });
         }
         if d.bound != a.bound.min(b.bound) {
-            return Err(18);
+            return Err(refusal::LESSER_BOUND);
         }
         Ok(())
     }

@@ -3,6 +3,7 @@
 use bench::{judge, Marks, Merge};
 use planner::padding::Mix;
 use proved::Answer;
+use samples::NUMBERS;
 
 const COUNT: usize = 50_000;
 
@@ -27,11 +28,11 @@ fn same(sheet: &[u8], record: &[u8], what: &str) -> u64 {
 
 #[test]
 fn on_generated_and_damaged_records() {
-    let mut met = [0usize; 20];
+    let mut met = [0usize; NUMBERS];
     for sample in samples::stream(5).take(COUNT) {
         met[same(&sample.sheet, &sample.record, sample.aimed) as usize] += 1;
     }
-    for number in (0..20).filter(|n| *n != 1) {
+    for number in (0..NUMBERS).filter(|n| *n != 1) {
         assert!(met[number] > 0, "no sample met {number}");
     }
 }

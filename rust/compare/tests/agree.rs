@@ -4,7 +4,7 @@
 use compare::{hex, judge};
 use planner::padding::Mix;
 use proved::show;
-use samples::Sample;
+use samples::{Sample, NUMBERS};
 use std::fs;
 use std::path::Path;
 
@@ -72,7 +72,7 @@ fn on_every_example() {
 fn on_generated_and_damaged_records() {
     let count = setting("COMPARE_COUNT", COUNT);
     let seed = setting("COMPARE_SEED", SEED);
-    let mut met = [0usize; 20];
+    let mut met = [0usize; NUMBERS];
     for (
         i,
         Sample {
@@ -90,7 +90,7 @@ fn on_generated_and_damaged_records() {
         }
     }
     println!("seed {seed}, {count} samples, by number {met:?}");
-    for number in (0..20).filter(|n| *n != 1) {
+    for number in (0..NUMBERS).filter(|n| *n != 1) {
         assert!(met[number] > 0, "no sample met {number}");
     }
 }
@@ -119,7 +119,7 @@ fn on_longer_records() {
 #[test]
 fn on_longer_records_with_one_byte_changed() {
     const CHANGES: usize = 2_000;
-    let mut met = [0usize; 20];
+    let mut met = [0usize; NUMBERS];
     for (seed, mix) in [(4, Mix::Mixed), (5, Mix::Resolution), (7, Mix::Long)] {
         let Sample { sheet, record, .. } = samples::long(seed, 50_000, mix);
         let mut changed = record.clone();

@@ -1,5 +1,7 @@
 //! Numbers in a file, and the bodies that a pair table names. Every reader answers on any bytes, whatever they hold.
 
+use planner::format::PAIR;
+
 pub fn u16_at(bytes: &[u8], at: usize) -> Option<u16> {
     let part = bytes.get(at..at.checked_add(2)?)?;
     Some(u16::from_le_bytes(part.try_into().ok()?))
@@ -34,12 +36,12 @@ impl<'a> Bodies<'a> {
 
     /// Where the table ends and the bodies should begin.
     pub fn table_end(&self) -> usize {
-        self.table + 8 * self.count
+        self.table + PAIR * self.count
     }
 
     /// Where the pair of a body stands.
     pub fn pair_place(&self, number: usize) -> usize {
-        self.table + 8 * number.saturating_sub(1)
+        self.table + PAIR * number.saturating_sub(1)
     }
 
     /// The offset and the length that the pair tells.

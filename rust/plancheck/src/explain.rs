@@ -1,7 +1,7 @@
 //! An answer with the place that it names: the proved checker's line, a sentence, and what stands there.
 
 use crate::places::{cited_lines, clause_line, cost, pair_line, step_line};
-use crate::record::Record;
+use crate::record::{Record, ASSIGNMENT};
 use crate::refusals::sentence;
 use crate::sheet::Sheet;
 use crate::text;
@@ -76,7 +76,7 @@ fn in_record_head(sheet: &Sheet, record: &Record, size: usize, answer: &Answer) 
             size,
         )],
         6 => vec![format!(
-            "assignment (record, byte 12), {} variables:{}; claim {claim}",
+            "assignment (record, byte {ASSIGNMENT}), {} variables:{}; claim {claim}",
             sheet.variables,
             text::hex(record.bits)
         )],
@@ -119,7 +119,10 @@ fn value_line(sheet: &Sheet, record: &Record, clause: usize) -> String {
     if values.is_empty() {
         return "nothing satisfies a clause without literals".to_string();
     }
-    format!("assignment (record, byte 12): {}", values.join(", "))
+    format!(
+        "assignment (record, byte {ASSIGNMENT}): {}",
+        values.join(", ")
+    )
 }
 
 /// The true variables and their costs.
@@ -127,7 +130,7 @@ fn true_line(sheet: &Sheet, record: &Record) -> String {
     let variables = record.true_variables(sheet.variables);
     let costs: Vec<_> = variables.iter().map(|v| cost(sheet, *v)).collect();
     if costs.is_empty() {
-        return "assignment (record, byte 12): nothing is true".to_string();
+        return format!("assignment (record, byte {ASSIGNMENT}): nothing is true");
     }
     let sum: u64 = variables
         .iter()
@@ -135,5 +138,5 @@ fn true_line(sheet: &Sheet, record: &Record) -> String {
         .map(u64::from)
         .sum();
     let costs = costs.join(", ");
-    format!("assignment (record, byte 12): true are: {costs}; together {sum}")
+    format!("assignment (record, byte {ASSIGNMENT}): true are: {costs}; together {sum}")
 }

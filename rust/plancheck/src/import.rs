@@ -1,10 +1,7 @@
 //! From the weighted DIMACS form to a problem. What a sheet cannot hold is refused, never bent.
 
 use crate::words::Fault;
-use planner::{Literal, Problem};
-
-const MOST_VARIABLES: usize = 1024;
-const MOST_CLAUSES: usize = 4096;
+use planner::{Literal, Problem, MOST_CLAUSES, MOST_VARIABLES};
 
 /// The `p` line of the older form.
 #[derive(Clone, Copy, Debug)]
@@ -54,7 +51,9 @@ impl Import {
         let clauses = number("the number of clauses", clauses)? as usize;
         let top = number("the top weight", top)?;
         if !(1..=MOST_VARIABLES).contains(&variables) {
-            return Err(format!("a sheet has 1 to 1024 variables, not {variables}"));
+            return Err(format!(
+                "a sheet has 1 to {MOST_VARIABLES} variables, not {variables}"
+            ));
         }
         self.costs = vec![0; variables];
         self.head = Some(Head {
@@ -71,7 +70,7 @@ impl Import {
         match self.soft_weight(weight)? {
             Some(weight) => self.soft(weight, &literals),
             None if self.clauses.len() == MOST_CLAUSES => {
-                Err("a sheet has 4096 hard clauses at most".into())
+                Err(format!("a sheet has {MOST_CLAUSES} hard clauses at most"))
             }
             None => {
                 self.clauses.push(sorted(literals)?);
@@ -109,8 +108,8 @@ impl Import {
         let cost = &mut self.costs[literal.index()];
         let sum = u64::from(*cost).checked_add(weight);
         *cost = sum.and_then(|sum| u32::try_from(sum).ok()).ok_or_else(|| {
-            let variable = literal.variable();
-            format!("variable {variable} costs more than 4294967295")
+            let (variable, most) = (literal.variable(), u32::MAX);
+            format!("variable {variable} costs more than {most}")
         })?;
         Ok(())
     }
@@ -164,11 +163,12 @@ fn number(what: &str, word: &str) -> Result<u64, String> {
 fn literal(word: &str) -> Result<Literal, String> {
     match word.parse::<i32>() {
         Ok(0) => Err("0 stands at the end of a clause only".into()),
-        Ok(number) if number.unsigned_abs() < 1 << 15 => {
-            let variable = number.unsigned_abs() as usize;
-            Ok(Literal::new(variable, number > 0))
-        }
-        Ok(number) => Err(format!("variable {} is above 1024", number.unsigned_abs())),
+        Ok(number) => match number.unsigned_abs() as usize {
+            variable if variable <= Literal::LAST_VARIABLE => {
+                Ok(Literal::new(variable, number > 0))
+            }
+            variable => Err(format!("variable {variable} is above {MOST_VARIABLES}")),
+        },
         Err(_) => Err(format!("'{word}' is no literal")),
     }
 }

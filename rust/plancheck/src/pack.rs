@@ -71,7 +71,7 @@ pub fn pack(text: &str) -> Result<(Packed, Vec<u8>), Fault> {
         Ok(_) => Ok((packed, bytes)),
         Err(_) => Err(Fault {
             line: lines.last,
-            reason: "the file grows above 4294967295 bytes".into(),
+            reason: format!("the file grows above {} bytes", u32::MAX),
         }),
     }
 }
@@ -91,7 +91,7 @@ fn sheet(lines: &mut Lines) -> Result<Vec<u8>, Fault> {
             _ => return Err(words.fault("a sheet has lines 'cost' and 'clause'")),
         }
         if problem.costs.len().max(problem.clauses.len()) > usize::from(u16::MAX) {
-            return Err(words.fault("a sheet counts to 65535 at most"));
+            return Err(words.fault(format!("a sheet counts to {} at most", u16::MAX)));
         }
     }
     Ok(format::sheet(&problem))

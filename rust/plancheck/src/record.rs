@@ -1,6 +1,7 @@
 //! A record taken apart for showing.
 
 use crate::bodies::{u32_at, u64_at, Bodies};
+use planner::format::STEP_COUNT;
 
 /// A record as far as its head can be read.
 #[derive(Clone, Copy, Debug)]
@@ -11,6 +12,9 @@ pub struct Record<'a> {
     pub steps: Bodies<'a>,
 }
 
+/// Where a record's assignment begins.
+pub const ASSIGNMENT: usize = planner::format::RECORD_HEAD;
+
 /// How many bytes the assignment takes.
 pub fn width(variables: usize) -> usize {
     variables.div_ceil(8)
@@ -20,11 +24,11 @@ impl<'a> Record<'a> {
     /// Nothing where the file is too short for the claim, the number of steps and the assignment.
     pub fn open(bytes: &'a [u8], variables: usize) -> Option<Self> {
         let claim = u64_at(bytes, 0)?;
-        let count = u32_at(bytes, 8)? as usize;
-        let end = 12 + width(variables);
+        let count = u32_at(bytes, STEP_COUNT)? as usize;
+        let end = ASSIGNMENT + width(variables);
         Some(Record {
             claim,
-            bits: bytes.get(12..end)?,
+            bits: bytes.get(ASSIGNMENT..end)?,
             steps: Bodies::new(bytes, end, count),
         })
     }

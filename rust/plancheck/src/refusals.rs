@@ -1,6 +1,7 @@
 //! The answers in plain words. The numbers and their meaning are those of docs/FORMATS.md.
 
 use crate::text::amount;
+use planner::{MOST_CLAUSES, MOST_VARIABLES};
 use proved::{Answer, NONE};
 
 /// What kind of thing a refusal's place is.
@@ -37,8 +38,8 @@ pub fn sentence(answer: &Answer) -> String {
 
 fn about_layout(number: u64, place: u64) -> String {
     match number {
-        1 => "Oversize: one of the files is longer than 4294967295 bytes.".to_string(),
-        2 => "Sheet head: the sheet does not begin with 1 to 1024 variables and 0 to 4096 clauses, or it ends before their costs and pairs do.".to_string(),
+        1 => format!("Oversize: one of the files is longer than {} bytes.", u32::MAX),
+        2 => format!("Sheet head: the sheet does not begin with 1 to {MOST_VARIABLES} variables and 0 to {MOST_CLAUSES} clauses, or it ends before their costs and pairs do."),
         3 if place == 0 => "Sheet pairs: the sheet has no clauses, but goes on after the costs.".to_string(),
         3 => format!("Sheet pairs: the pair of clause {place} does not fit: bodies stand one behind the other, from the end of the table to the end of the file."),
         4 => format!("Rule form: clause {place} is no list of literals: each takes two bytes, of variables that the sheet has, rising."),

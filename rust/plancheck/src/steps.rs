@@ -2,15 +2,16 @@
 
 use crate::bodies::{u16_at, u32_at, u64_at};
 use crate::sheet;
-use planner::{format, Reason, Step};
+use planner::format::{self, STEP_HEAD};
+use planner::{Reason, Step};
 
 /// The step of a body. Nothing where another body is written for that step, so that what can be read can be written back.
 pub fn read(body: &[u8]) -> Option<Step> {
     let count = usize::from(u16_at(body, 2)?);
     let bound = u64_at(body, 4)?;
-    let tail = 12 + 2 * count;
+    let tail = STEP_HEAD + 2 * count;
     let step = Step {
-        literals: sheet::literals(body.get(12..tail)?)?,
+        literals: sheet::literals(body.get(STEP_HEAD..tail)?)?,
         bound,
         reason: reason(body[0], &body[tail..])?,
     };

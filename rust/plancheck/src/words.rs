@@ -90,11 +90,15 @@ impl<'a> Words<'a> {
             None => (word, true),
         };
         match digits.parse::<usize>() {
-            Ok(variable) if (1..1 << 15).contains(&variable) && variable.to_string() == digits => {
+            Ok(variable)
+                if (1..=Literal::LAST_VARIABLE).contains(&variable)
+                    && variable.to_string() == digits =>
+            {
                 Ok(Literal::new(variable, value))
             }
             _ => Err(self.fault(format!(
-                "'{word}' is no literal: write a variable from 1 to 32767, with - in front for a negative literal"
+                "'{word}' is no literal: write a variable from 1 to {}, with - in front for a negative literal",
+                Literal::LAST_VARIABLE
             ))),
         }
     }

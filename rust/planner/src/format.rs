@@ -3,6 +3,14 @@
 use crate::certificate::{Reason, Step};
 use crate::problem::{Literal, Problem};
 
+/// How many bytes a pair has, a record before its assignment, and a step before its literals.
+pub const PAIR: usize = 8;
+pub const RECORD_HEAD: usize = 12;
+pub const STEP_HEAD: usize = 12;
+
+/// Where a record tells how many steps it has.
+pub const STEP_COUNT: usize = 8;
+
 /// Bodies in order, with the lengths that their pairs will tell.
 #[derive(Clone, Debug, Default)]
 pub struct Bodies {
@@ -22,7 +30,7 @@ impl Bodies {
 
     /// What the pairs and the bodies will take in a file.
     pub fn size(&self) -> usize {
-        8 * self.lengths.len() + self.bytes.len()
+        PAIR * self.lengths.len() + self.bytes.len()
     }
 }
 
@@ -39,7 +47,7 @@ impl<B: AsRef<[u8]>> FromIterator<B> for Bodies {
 /// Ends either file: the pairs, whose first offset is where they end, then the bodies.
 pub fn append_bodies(file: &mut Vec<u8>, bodies: &Bodies) {
     file.reserve(bodies.size());
-    let mut offset = (file.len() + 8 * bodies.count()) as u32;
+    let mut offset = (file.len() + PAIR * bodies.count()) as u32;
     for length in &bodies.lengths {
         file.extend_from_slice(&offset.to_le_bytes());
         file.extend_from_slice(&length.to_le_bytes());
@@ -78,7 +86,7 @@ pub fn sheet(problem: &Problem) -> Vec<u8> {
 
 /// A record from its claim, the bytes of its assignment and its step bodies.
 pub fn record_from(claim: u64, assignment: &[u8], steps: &Bodies) -> Vec<u8> {
-    let mut file = Vec::with_capacity(12 + assignment.len() + steps.size());
+    let mut file = Vec::with_capacity(RECORD_HEAD + assignment.len() + steps.size());
     file.extend_from_slice(&claim.to_le_bytes());
     file.extend_from_slice(&(steps.count() as u32).to_le_bytes());
     file.extend_from_slice(assignment);
@@ -97,7 +105,7 @@ pub fn assignment_bytes(assignment: &[bool]) -> Vec<u8> {
 
 pub fn step_body(step: &Step) -> Vec<u8> {
     let tail = tail_bytes(&step.reason);
-    let mut body = Vec::with_capacity(12 + 2 * step.literals.len() + tail.len());
+    let mut body = Vec::with_capacity(STEP_HEAD + 2 * step.literals.len() + tail.len());
     body.extend_from_slice(&[step.reason.kind(), 0]);
     body.extend_from_slice(&(step.literals.len() as u16).to_le_bytes());
     body.extend_from_slice(&step.bound.to_le_bytes());

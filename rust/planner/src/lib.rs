@@ -12,7 +12,7 @@ pub mod search;
 pub mod tree;
 
 pub use certificate::{Certificate, Reason, Step};
-pub use problem::{Literal, Problem, NONE};
+pub use problem::{Literal, Problem, MOST_CLAUSES, MOST_VARIABLES, NONE};
 
 /// A claim with what bears it out. Where the claim is "none", every value is false.
 #[derive(Clone, Debug, PartialEq, Eq)]

@@ -1,6 +1,6 @@
 //! Records of a wanted size: a plan's steps spread evenly among steps that it does not need.
 
-use crate::format::{assignment_bytes, record_from, step_body, Bodies};
+use crate::format::{assignment_bytes, record_from, step_body, Bodies, PAIR, RECORD_HEAD};
 use crate::padding::{Mix, Padding};
 use crate::problem::Problem;
 use crate::random::Random;
@@ -13,10 +13,10 @@ pub fn record(problem: &Problem, plan: &Plan, seed: u64, size: usize, mix: Mix) 
     let own: usize = plan
         .steps
         .iter()
-        .map(|step| step_body(step).len() + 8)
+        .map(|step| step_body(step).len() + PAIR)
         .sum();
     let assignment = assignment_bytes(&plan.assignment);
-    let budget = size.saturating_sub(own + 12 + assignment.len());
+    let budget = size.saturating_sub(own + RECORD_HEAD + assignment.len());
     let mut padded = 0;
     let mut moved = Vec::with_capacity(plan.steps.len());
     for (place, step) in plan.steps.iter().enumerate() {
@@ -25,7 +25,7 @@ pub fn record(problem: &Problem, plan: &Plan, seed: u64, size: usize, mix: Mix) 
         while padded < due {
             let extra = padding.step();
             let body = step_body(&extra);
-            padded += body.len() + 8;
+            padded += body.len() + PAIR;
             bodies.push(&body);
             padding.remember(bodies.count() as u32, &extra);
         }

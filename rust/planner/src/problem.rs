@@ -3,6 +3,10 @@
 /// The claim or bound that stands for "no assignment at all"; it is stored as it is.
 pub const NONE: u64 = u64::MAX;
 
+/// As many variables and clauses as a sheet may have.
+pub const MOST_VARIABLES: usize = 1024;
+pub const MOST_CLAUSES: usize = 4096;
+
 /// A variable with a polarity, kept as its code: twice the variable's number, plus one when negative.
 ///
 /// The order of the codes is the order of the variables, so a sorted list is a list in file order.
@@ -10,6 +14,9 @@ pub const NONE: u64 = u64::MAX;
 pub struct Literal(u16);
 
 impl Literal {
+    /// The greatest variable whose codes have 2 bytes.
+    pub const LAST_VARIABLE: usize = (u16::MAX / 2) as usize;
+
     /// The literal that is true when `variable`, numbered from 1, has the value `value`.
     pub fn new(variable: usize, value: bool) -> Literal {
         let code = 2 * variable + usize::from(!value);

@@ -3,6 +3,7 @@
 
 use crate::layout::number;
 use crate::literal::Literal;
+use crate::record::ASSIGNMENT_START;
 use crate::sheet::{self, Sheet};
 use crate::{sheet_is_valid, Answer, NONE};
 use std::collections::BTreeSet;
@@ -33,7 +34,7 @@ pub fn confirms(sheet: &[u8], record: &[u8], answer: &Answer) -> bool {
         return false;
     };
     let byte_count = problem.costs.len().div_ceil(8);
-    let Some(stored) = record.get(12..12 + byte_count) else {
+    let Some(stored) = record.get(ASSIGNMENT_START..ASSIGNMENT_START + byte_count) else {
         return false;
     };
     let assignment = number(stored) as u32;

@@ -14,6 +14,14 @@ pub(crate) fn length(bytes: &[u8]) -> u128 {
     bytes.len() as u128
 }
 
+/// How many bytes a pair takes.
+const PAIR_SIZE: usize = 8;
+
+/// Where `count` pairs that start at `pairs_start` end, as a wide number.
+pub(crate) fn pairs_end(pairs_start: usize, count: u64) -> u128 {
+    pairs_start as u128 + PAIR_SIZE as u128 * u128::from(count)
+}
+
 /// One entry of a pair list: where a body starts, counted from the file's first byte, and how long it is.
 struct Pair {
     offset: u128,
@@ -47,7 +55,7 @@ impl<'a> Bodies<'a> {
     }
 
     fn pair(&self, pair_number: u64) -> Pair {
-        let stored = &self.file[self.pairs_start + 8 * (pair_number as usize - 1)..];
+        let stored = &self.file[self.pairs_start + PAIR_SIZE * (pair_number as usize - 1)..];
         Pair {
             offset: u128::from(number(&stored[0..4])),
             length: u128::from(number(&stored[4..8])),
@@ -65,7 +73,7 @@ pub(crate) fn read_bodies(file: &[u8], pairs_start: usize, count: u64) -> Result
         pairs_start,
         count,
     };
-    let mut expected = pairs_start as u128 + 8 * u128::from(count);
+    let mut expected = pairs_end(pairs_start, count);
     for pair_number in 1..=count {
         let pair = bodies.pair(pair_number);
         if pair.offset != expected {

@@ -26,7 +26,7 @@ struct Head<'a> {
 }
 
 /// The claim and the number of steps take 12 bytes; the assignment follows.
-const ASSIGNMENT_START: usize = 12;
+pub(crate) const ASSIGNMENT_START: usize = 12;
 
 /// The record, or the first of refusals 5 to 7 that it meets.
 pub(crate) fn read(file: &[u8], variable_count: u32) -> Result<Record<'_>, Refusal> {
@@ -51,8 +51,7 @@ fn read_head(file: &[u8], variable_count: u32) -> Result<Head<'_>, Refusal> {
         return refuse(RECORD_HEAD, 0);
     }
     let pairs_start = ASSIGNMENT_START + variable_count.div_ceil(8) as usize;
-    let pairs_end = pairs_start as u128 + 8 * u128::from(step_count);
-    if length(file) < pairs_end {
+    if length(file) < layout::pairs_end(pairs_start, step_count) {
         return refuse(RECORD_HEAD, 0);
     }
     Ok(Head {

@@ -5,6 +5,10 @@ use crate::literal::{read_literals, Literal};
 use crate::refusal::{refuse, Refusal, RULE_FORM, SHEET_HEAD, SHEET_PAIRS};
 use std::collections::BTreeSet;
 
+/// As many variables and clauses as a sheet may have.
+const MOST_VARIABLES: u64 = 1_024;
+const MOST_CLAUSES: u64 = 4_096;
+
 /// A valid sheet. Variables and clauses are numbered from 1, so each stands at its number less 1.
 pub(crate) struct Sheet<'a> {
     costs: Vec<u64>,
@@ -69,17 +73,17 @@ fn read_head(file: &[u8]) -> Result<Head, Refusal> {
     }
     let variable_count = number(&file[0..2]);
     let clause_count = number(&file[2..4]);
-    if !(1..=1_024).contains(&variable_count) || clause_count > 4_096 {
+    if !(1..=MOST_VARIABLES).contains(&variable_count) || clause_count > MOST_CLAUSES {
         return refuse(SHEET_HEAD, 0);
     }
-    let pairs_end = 4 + 4 * u128::from(variable_count) + 8 * u128::from(clause_count);
-    if length(file) < pairs_end {
-        return refuse(SHEET_HEAD, 0);
-    }
-    Ok(Head {
+    let head = Head {
         variable_count: variable_count as u32,
         clause_count,
-    })
+    };
+    if length(file) < layout::pairs_end(head.pairs_start(), clause_count) {
+        return refuse(SHEET_HEAD, 0);
+    }
+    Ok(head)
 }
 
 /// Refusal 3.

@@ -43,15 +43,17 @@ pub(crate) fn check(sheet: &Sheet, earlier: &[CostClause], body: &[u8]) -> Resul
     Ok(step.cost_clause)
 }
 
-/// The step, or `None` where its form is wrong (refusal 8). The head of a body is 12 bytes: the kind, a zero, the
-/// number of literals in 2 bytes and the bound in 8.
+/// The head of a body: the kind, a zero, the number of literals in 2 bytes and the bound in 8.
+const HEAD_SIZE: usize = 12;
+
+/// The step, or `None` where its form is wrong (refusal 8).
 pub(crate) fn read(body: &[u8], variable_count: u32) -> Option<Step<'_>> {
-    let head = body.get(..12)?;
+    let head = body.get(..HEAD_SIZE)?;
     if head[1] != 0 {
         return None;
     }
-    let literals_end = 12 + 2 * number(&head[2..4]) as usize;
-    let literal_bytes = body.get(12..literals_end)?;
+    let literals_end = HEAD_SIZE + 2 * number(&head[2..4]) as usize;
+    let literal_bytes = body.get(HEAD_SIZE..literals_end)?;
     let tail = &body[literals_end..];
     Some(Step {
         cost_clause: CostClause {

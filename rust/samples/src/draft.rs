@@ -1,6 +1,6 @@
 //! Both files taken apart, so that a part can be changed and the pairs written anew around it.
 
-use planner::format::{record_from, sheet_from};
+use planner::format::{record_from, sheet_from, PAIR, RECORD_HEAD, STEP_COUNT, STEP_HEAD};
 use planner::Problem;
 
 /// The bytes of both files.
@@ -36,6 +36,16 @@ pub struct Table {
     pub start: usize,
     pub count: usize,
 }
+
+impl Table {
+    /// Where the pairs end.
+    pub fn end(self) -> usize {
+        self.start + PAIR * self.count
+    }
+}
+
+/// Where the tail of a resolution has the pivot.
+const PIVOT: usize = 8;
 
 pub fn assignment_length(variables: usize) -> usize {
     variables.div_ceil(8)
@@ -89,9 +99,9 @@ impl Files {
     }
 
     pub fn record_table(&self) -> Option<Table> {
-        let count = read_u32(&self.record, 8)? as usize;
+        let count = read_u32(&self.record, STEP_COUNT)? as usize;
         Some(Table {
-            start: 12 + assignment_length(self.variables()?),
+            start: RECORD_HEAD + assignment_length(self.variables()?),
             count,
         })
     }
@@ -100,11 +110,11 @@ impl Files {
 impl Draft {
     /// Takes a well-formed record for this problem apart.
     pub fn new(problem: &Problem, record: &[u8]) -> Option<Draft> {
-        let start = 12 + assignment_length(problem.variables());
+        let start = RECORD_HEAD + assignment_length(problem.variables());
         let mut steps = Vec::new();
-        for place in 0..read_u32(record, 8)? as usize {
-            let offset = read_u32(record, start + 8 * place)? as usize;
-            let length = read_u32(record, start + 8 * place + 4)? as usize;
+        for place in 0..read_u32(record, STEP_COUNT)? as usize {
+            let offset = read_u32(record, start + PAIR * place)? as usize;
+            let length = read_u32(record, start + PAIR * place + 4)? as usize;
             steps.push(record.get(offset..offset + length)?.to_vec());
         }
         let bytes = |clause: &Vec<_>| planner::format::literal_bytes(clause);
@@ -112,7 +122,7 @@ impl Draft {
             costs: problem.costs.clone(),
             clauses: problem.clauses.iter().map(bytes).collect(),
             claim: read_u64(record, 0)?,
-            assignment: record.get(12..start)?.to_vec(),
+            assignment: record.get(RECORD_HEAD..start)?.to_vec(),
             steps,
         })
     }
@@ -193,8 +203,9 @@ impl Body {
     pub fn read(bytes: &[u8]) -> Option<Body> {
         let count = usize::from(read_u16(bytes, 2)?);
         let bound = read_u64(bytes, 4)?;
-        let literals = codes(bytes.get(12..12 + 2 * count)?);
-        let tail = bytes[12 + 2 * count..].to_vec();
+        let end = STEP_HEAD + 2 * count;
+        let literals = codes(bytes.get(STEP_HEAD..end)?);
+        let tail = bytes[end..].to_vec();
         Some(Body {
             kind: bytes[0],
             spare: bytes[1],
@@ -243,7 +254,11 @@ impl Body {
     }
 
     pub fn pivot(&self) -> Option<u16> {
-        read_u16(&self.tail, 8)
+        read_u16(&self.tail, PIVOT)
+    }
+
+    pub fn set_pivot(&mut self, pivot: u16) -> Option<()> {
+        overwrite(&mut self.tail, PIVOT, &pivot.to_le_bytes())
     }
 
     pub fn holds(&self, code: u16) -> bool {

@@ -13,6 +13,9 @@ use planner::padding::Mix;
 use planner::{format, long, search, tree, Plan, Problem};
 use random::Random;
 
+/// How many numbers an answer may have: 0 and those of the refusals.
+pub const NUMBERS: usize = 20;
+
 #[derive(Clone, Debug, PartialEq, Eq)]
 pub struct Sample {
     pub sheet: Vec<u8>,

@@ -1,7 +1,7 @@
 //! Random problems of many shapes.
 
 use crate::random::Random;
-use planner::{Literal, Problem};
+use planner::{Literal, Problem, MOST_VARIABLES};
 
 /// How costs are drawn.
 #[derive(Clone, Copy, Debug)]
@@ -127,7 +127,8 @@ pub fn middle(random: &mut Random) -> Problem {
 
 /// Up to as many variables as a sheet may have, and mostly that many, with few clauses.
 pub fn wide(random: &mut Random) -> Problem {
-    let variables = [1024, 1024, 1023, random.between(41, 1022)][random.below(4)];
+    let most = MOST_VARIABLES;
+    let variables = [most, most, most - 1, random.between(41, most - 2)][random.below(4)];
     let clauses = random.between(10, 60);
     let costs = some_costs(random);
     let shape = Shape {

@@ -77,7 +77,7 @@ fn body(words: &mut Words) -> Result<Vec<u8>, Fault> {
         literals.push(words.literal()?);
     }
     if literals.len() > usize::from(u16::MAX) {
-        return Err(words.fault("a step has 65535 literals at most"));
+        return Err(words.fault(format!("a step has {} literals at most", u16::MAX)));
     }
     words.expect("bound")?;
     let bound = words.amount("the bound")?;

@@ -5,6 +5,7 @@
 use super::{damage, Damage, Way};
 use crate::draft::{overwrite, read_u16, Body, Draft};
 use crate::random::Random;
+use planner::format::STEP_HEAD;
 
 pub const FORMS: &[Damage] = &[
     damage("4 odd length", Way::Draft(odd_clause)),
@@ -105,15 +106,15 @@ fn falling(list: &mut Vec<u16>, _: usize, random: &mut Random) -> Option<()> {
 
 fn short_body(body: &mut Vec<u8>, random: &mut Random) -> Option<()> {
     body.truncate(if random.percent(30) {
-        11
+        STEP_HEAD - 1
     } else {
-        random.below(12)
+        random.below(STEP_HEAD)
     });
     Some(())
 }
 
 fn many_literals(body: &mut Vec<u8>, random: &mut Random) -> Option<()> {
-    let room = body.len().checked_sub(12)? / 2 + 1;
+    let room = body.len().checked_sub(STEP_HEAD)? / 2 + 1;
     let count = *random.pick(&[room, room + 1, 0x8000, 0xFFFF])?;
     overwrite(body, 2, &(count as u16).to_le_bytes())
 }

@@ -3,16 +3,17 @@
 use super::{damage, Damage, Way};
 use crate::draft::{assignment_length, overwrite, read_u16, Draft, Files};
 use crate::random::Random;
-use planner::NONE;
+use planner::format::{PAIR, RECORD_HEAD, STEP_COUNT};
+use planner::{MOST_CLAUSES, MOST_VARIABLES, NONE};
 
 pub const HEADS: &[Damage] = &[
     damage(
         "0 most variables",
-        Way::Draft(|draft, _| resize_variables(draft, 1024)),
+        Way::Draft(|draft, _| resize_variables(draft, MOST_VARIABLES)),
     ),
     damage(
         "0 most clauses",
-        Way::Draft(|draft, _| resize_clauses(draft, 4096)),
+        Way::Draft(|draft, _| resize_clauses(draft, MOST_CLAUSES)),
     ),
     damage("2 sheet under four bytes", Way::Files(sheet_stub)),
     damage(
@@ -21,12 +22,12 @@ pub const HEADS: &[Damage] = &[
     ),
     damage(
         "2 one variable too many",
-        Way::Draft(|draft, _| resize_variables(draft, 1025)),
+        Way::Draft(|draft, _| resize_variables(draft, MOST_VARIABLES + 1)),
     ),
     damage("2 far too many variables", Way::Draft(far_too_many)),
     damage(
         "2 one clause too many",
-        Way::Draft(|draft, _| resize_clauses(draft, 4097)),
+        Way::Draft(|draft, _| resize_clauses(draft, MOST_CLAUSES + 1)),
     ),
     damage("2 costs cut short", Way::Files(cut_costs)),
     damage("2 sheet pairs cut short", Way::Files(cut_sheet_pairs)),
@@ -36,7 +37,7 @@ pub const HEADS: &[Damage] = &[
     damage("5 record pairs cut short", Way::Files(cut_record_pairs)),
     damage(
         "5 no steps told",
-        Way::Files(|files, _| overwrite(&mut files.record, 8, &[0; 4])),
+        Way::Files(|files, _| overwrite(&mut files.record, STEP_COUNT, &[0; 4])),
     ),
     damage("5 no steps at all", Way::Draft(no_steps)),
     damage("5 step count beyond the file", Way::Files(step_count)),
@@ -92,17 +93,13 @@ fn cut_costs(files: &mut Files, random: &mut Random) -> Option<()> {
 
 fn cut_sheet_pairs(files: &mut Files, random: &mut Random) -> Option<()> {
     let table = files.sheet_table()?;
-    cut(
-        &mut files.sheet,
-        table.start,
-        table.start + 8 * table.count,
-        random,
-    )
+    cut(&mut files.sheet, table.start, table.end(), random)
 }
 
 fn sheet_number(files: &mut Files, random: &mut Random) -> Option<()> {
     let place = *random.pick(&[0, 2])?;
-    let number = *random.pick(&[0_u16, 1, 1024, 1025, 4096, 4097, 32768, 65535])?;
+    let (n, m) = (MOST_VARIABLES as u16, MOST_CLAUSES as u16);
+    let number = *random.pick(&[0, 1, n, n + 1, m, m + 1, 1 << 15, u16::MAX])?;
     if read_u16(&files.sheet, place)? == number {
         return None;
     }
@@ -110,22 +107,17 @@ fn sheet_number(files: &mut Files, random: &mut Random) -> Option<()> {
 }
 
 fn record_stub(files: &mut Files, random: &mut Random) -> Option<()> {
-    cut(&mut files.record, 0, 12, random)
+    cut(&mut files.record, 0, RECORD_HEAD, random)
 }
 
 fn cut_assignment(files: &mut Files, random: &mut Random) -> Option<()> {
     let end = files.record_table()?.start;
-    cut(&mut files.record, 12, end, random)
+    cut(&mut files.record, RECORD_HEAD, end, random)
 }
 
 fn cut_record_pairs(files: &mut Files, random: &mut Random) -> Option<()> {
     let table = files.record_table()?;
-    cut(
-        &mut files.record,
-        table.start,
-        table.start + 8 * table.count,
-        random,
-    )
+    cut(&mut files.record, table.start, table.end(), random)
 }
 
 fn no_steps(draft: &mut Draft, _: &mut Random) -> Option<()> {
@@ -135,9 +127,9 @@ fn no_steps(draft: &mut Draft, _: &mut Random) -> Option<()> {
 
 /// Counts whose pairs would take more than 32 bits, or just more than the file has.
 fn step_count(files: &mut Files, random: &mut Random) -> Option<()> {
-    let more = (files.record.len() / 8) as u32;
+    let more = (files.record.len() / PAIR) as u32;
     let count = *random.pick(&[more, 1 << 29, (1 << 29) + 1, 1 << 31, u32::MAX])?;
-    overwrite(&mut files.record, 8, &count.to_le_bytes())
+    overwrite(&mut files.record, STEP_COUNT, &count.to_le_bytes())
 }
 
 fn spare_bit(draft: &mut Draft, random: &mut Random) -> Option<()> {

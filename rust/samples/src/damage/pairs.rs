@@ -5,6 +5,7 @@
 use super::{damage, Damage, Way};
 use crate::draft::{overwrite, read_u32, Files, Table};
 use crate::random::Random;
+use planner::format::{PAIR, STEP_COUNT};
 
 pub const PAIRS: &[Damage] = &[
     damage("3 first offset", Way::SheetPairs(first_offset)),
@@ -36,7 +37,7 @@ pub const PAIRS: &[Damage] = &[
 impl Table {
     /// Where the pair counted from 0 stands; its length stands 4 bytes on.
     fn pair(self, place: usize) -> Option<usize> {
-        (place < self.count).then_some(self.start + 8 * place)
+        (place < self.count).then_some(self.start + PAIR * place)
     }
 
     fn some(self, random: &mut Random) -> Option<usize> {
@@ -115,8 +116,8 @@ fn gap(file: &mut Vec<u8>, table: Table, random: &mut Random) -> Option<()> {
 
 fn swapped(file: &mut Vec<u8>, table: Table, random: &mut Random) -> Option<()> {
     let (this, that) = (table.some(random)?, table.some(random)?);
-    let first = file.get(this..this + 8)?.to_vec();
-    let second = file.get(that..that + 8)?.to_vec();
+    let first = file.get(this..this + PAIR)?.to_vec();
+    let second = file.get(that..that + PAIR)?.to_vec();
     if first == second {
         return None;
     }
@@ -130,8 +131,7 @@ fn byte_too_many(file: &mut Vec<u8>, _: Table, random: &mut Random) -> Option<()
 }
 
 fn byte_too_few(file: &mut Vec<u8>, table: Table, _: &mut Random) -> Option<()> {
-    let pairs_end = table.start + 8 * table.count;
-    (file.len() > pairs_end && table.count > 0).then(|| file.truncate(file.len() - 1))
+    (file.len() > table.end() && table.count > 0).then(|| file.truncate(file.len() - 1))
 }
 
 /// Pairs that fit each other, but one body ends elsewhere than it should.
@@ -153,5 +153,5 @@ fn clause_count(files: &mut Files, random: &mut Random) -> Option<()> {
 }
 
 fn step_count(files: &mut Files, random: &mut Random) -> Option<()> {
-    shift(&mut files.record, 8, one(random))
+    shift(&mut files.record, STEP_COUNT, one(random))
 }

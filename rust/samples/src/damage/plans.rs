@@ -3,7 +3,7 @@
 use super::{damage, Damage, Way};
 use crate::draft::{assignment_length, Body, Draft};
 use crate::random::Random;
-use planner::NONE;
+use planner::{MOST_VARIABLES, NONE};
 
 pub const PLANS: &[Damage] = &[
     damage(
@@ -33,7 +33,7 @@ pub const PLANS: &[Damage] = &[
 /// A variable of cost 1 outside every clause. Made true, it puts the claim one over the close.
 fn spare_variable(draft: &mut Draft, value: bool) -> Option<()> {
     let variables = draft.variables() + 1;
-    if variables > 1024 || (value && draft.claim == NONE) {
+    if variables > MOST_VARIABLES || (value && draft.claim == NONE) {
         return None;
     }
     draft.costs.push(1);

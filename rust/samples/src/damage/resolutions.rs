@@ -5,15 +5,15 @@ use super::statements::{
     bound_off_by_one, literal_extra, literal_missing, literal_negated, set_bound,
 };
 use super::{damage, Damage, Way};
-use crate::draft::{overwrite, Body, Draft};
+use crate::draft::{Body, Draft};
 use crate::random::Random;
-use planner::NONE;
+use planner::{MOST_VARIABLES, NONE};
 
 pub const RESOLUTIONS: &[Damage] = &[
     damage("16 other pivot", Way::Step(4, other_pivot)),
     damage(
         "16 pivot 0",
-        Way::Step(4, |_, _, body, _| overwrite(&mut body.tail, 8, &[0, 0])),
+        Way::Step(4, |_, _, body, _| body.set_pivot(0)),
     ),
     damage("16 pivot past the last", Way::Step(4, pivot_past_the_last)),
     damage("16 pivot too large for 2 bytes", Way::Step(4, pivot_wraps)),
@@ -62,19 +62,19 @@ fn other_pivot(draft: &Draft, _: u32, body: &mut Body, random: &mut Random) -> O
     if a.holds(2 * pivot) && b.holds(2 * pivot + 1) {
         return None;
     }
-    overwrite(&mut body.tail, 8, &pivot.to_le_bytes())
+    body.set_pivot(pivot)
 }
 
 fn pivot_past_the_last(draft: &Draft, _: u32, body: &mut Body, random: &mut Random) -> Option<()> {
     let past = draft.variables() as u16 + 1;
-    let pivot = *random.pick(&[past, past, 1025, u16::MAX])?;
-    overwrite(&mut body.tail, 8, &pivot.to_le_bytes())
+    let pivot = *random.pick(&[past, past, MOST_VARIABLES as u16 + 1, u16::MAX])?;
+    body.set_pivot(pivot)
 }
 
 /// Doubled in 2 bytes this pivot would give the right codes.
 fn pivot_wraps(_: &Draft, _: u32, body: &mut Body, _: &mut Random) -> Option<()> {
     let pivot = body.pivot()? | 0x8000;
-    overwrite(&mut body.tail, 8, &pivot.to_le_bytes())
+    body.set_pivot(pivot)
 }
 
 fn swapped(_: &Draft, _: u32, body: &mut Body, _: &mut Random) -> Option<()> {
