@@ -1,6 +1,7 @@
 //! The example programs of `bindings/`, built and run: every plan of `examples/` gives its line, and the C program makes no
 //! memory error that valgrind sees, whatever the files hold.
 
+use samples::examples::{example, examples, Example};
 use std::fs;
 use std::path::{Path, PathBuf};
 use std::process::{Command, Output};
@@ -51,21 +52,13 @@ fn rust_program() -> PathBuf {
     target.join("debug/judge")
 }
 
-fn examples() -> Vec<PathBuf> {
-    let entries = fs::read_dir(root().join("examples")).unwrap();
-    let folders = entries.map(|entry| entry.unwrap().path());
-    folders.filter(|path| path.join("line").exists()).collect()
-}
-
 fn gives_every_line(program: &Path) {
-    let examples = examples();
-    assert!(!examples.is_empty());
-    for example in examples {
-        let [sheet, record, line] = ["sheet", "record", "line"].map(|name| example.join(name));
-        let output = run(Command::new(program).args([sheet, record]));
-        let line = fs::read(line).unwrap();
-        assert_eq!(output.stdout, line, "{}", example.display());
-        let refused = line.starts_with(b"refused");
+    for example in examples() {
+        let files = ["sheet", "record"].map(|name| example.folder.join(name));
+        let output = run(Command::new(program).args(files));
+        let (line, place) = (example.line, example.folder.display());
+        assert_eq!(String::from_utf8_lossy(&output.stdout), line, "{place}");
+        let refused = line.starts_with("refused");
         assert_eq!(output.status.code(), Some(i32::from(refused)));
     }
 }
@@ -121,8 +114,7 @@ fn clean(program: &Path, sheet: &[u8], record: &[u8], what: &str) {
 #[ignore = "needs valgrind"]
 fn the_c_program_makes_no_memory_error() {
     let program = c_program("valgrind");
-    let read = |name: &str| fs::read(root().join("examples").join(name)).unwrap();
-    let (sheet, record) = (read("D/sheet"), read("D/record"));
+    let Example { sheet, record, .. } = example("D");
     clean(&program, &sheet, &record, "valid");
     clean(&program, &[], &[], "two empty files");
     clean(&program, &sheet, &[], "an empty record");

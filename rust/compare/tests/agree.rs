@@ -4,9 +4,8 @@
 use compare::{hex, judge};
 use planner::padding::Mix;
 use proved::show;
+use samples::examples::{examples, Example};
 use samples::{Sample, NUMBERS};
-use std::fs;
-use std::path::Path;
 
 /// How many samples are compared, unless COMPARE_COUNT says otherwise; from which seed, unless COMPARE_SEED does.
 const COUNT: usize = 200_000;
@@ -51,21 +50,19 @@ fn same_part(sheet: &[u8], record: &[u8], step: u32, what: &str) {
 
 #[test]
 fn on_every_example() {
-    let examples = Path::new(env!("CARGO_MANIFEST_DIR")).join("../../examples");
-    let mut judged = 0;
-    for entry in fs::read_dir(examples).unwrap() {
-        let folder = entry.unwrap().path();
-        if folder.is_dir() {
-            let [sheet, record] =
-                ["sheet", "record"].map(|name| fs::read(folder.join(name)).unwrap());
-            same(&sheet, &record, &folder.display().to_string());
-            for step in 0..20 {
-                same_part(&sheet, &record, step, &folder.display().to_string());
-            }
-            judged += 1;
+    for Example {
+        folder,
+        sheet,
+        record,
+        ..
+    } in examples()
+    {
+        let what = folder.display().to_string();
+        same(&sheet, &record, &what);
+        for step in 0..20 {
+            same_part(&sheet, &record, step, &what);
         }
     }
-    assert_eq!(judged, 16);
 }
 
 #[test]

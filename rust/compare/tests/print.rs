@@ -1,6 +1,7 @@
 //! The printing program, run in folders of its own: every printed form and every message. `rt check print`, at the
 //! repository's root, builds it.
 
+use samples::examples::{example, examples, Example, COUNT};
 use std::fs;
 use std::path::{Path, PathBuf};
 use std::process::Command;
@@ -52,32 +53,23 @@ impl Drop for Folder {
     }
 }
 
-fn example(name: &str) -> [Vec<u8>; 3] {
-    ["sheet", "record", "line"]
-        .map(|file| fs::read(root().join("examples").join(name).join(file)).unwrap())
-}
-
 #[test]
 fn every_example_prints_its_line() {
     let mut printed = 0;
-    for entry in fs::read_dir(root().join("examples")).unwrap() {
-        let entry = entry.unwrap();
-        if entry.path().is_dir() {
-            let name = entry.file_name().into_string().unwrap();
-            let [sheet, record, line] = example(&name);
-            let folder = Folder::new(&name)
-                .with("sheet", &sheet)
-                .with("record", &record);
-            assert_eq!(folder.printed().as_bytes(), line, "{name}");
-            printed += 1;
-        }
+    for example in examples() {
+        let name = example.folder.file_name().unwrap().to_str().unwrap();
+        let folder = Folder::new(name)
+            .with("sheet", &example.sheet)
+            .with("record", &example.record);
+        assert_eq!(folder.printed(), example.line, "{name}");
+        printed += 1;
     }
-    assert_eq!(printed, 16, "A1 to A8, B1, B2, C1 to C4, D and E");
+    assert_eq!(printed, COUNT);
 }
 
 #[test]
 fn a_missing_file_cannot_be_read() {
-    let [sheet, record, _] = example("A1");
+    let Example { sheet, record, .. } = example("A1");
     assert_eq!(
         Folder::new("no-sheet").with("record", &record).printed(),
         "cannot read sheet\n"
@@ -90,7 +82,7 @@ fn a_missing_file_cannot_be_read() {
 
 #[test]
 fn a_folder_cannot_be_read() {
-    let [sheet, record, _] = example("A1");
+    let Example { sheet, record, .. } = example("A1");
     let first = Folder::new("sheet-folder")
         .with_folder("sheet")
         .with("record", &record);
@@ -103,7 +95,7 @@ fn a_folder_cannot_be_read() {
 
 #[test]
 fn a_file_may_have_65_536_bytes() {
-    let [sheet, record, _] = example("A1");
+    let Example { sheet, record, .. } = example("A1");
     let full = vec![0; LONGEST];
     // what is read is judged: a sheet of zeros has no variable, and zeros are no record
     let first = Folder::new("full-sheet")
@@ -118,7 +110,7 @@ fn a_file_may_have_65_536_bytes() {
 
 #[test]
 fn a_byte_more_is_too_long() {
-    let [sheet, record, _] = example("A1");
+    let Example { sheet, record, .. } = example("A1");
     let long = vec![0; LONGEST + 1];
     let first = Folder::new("long-sheet")
         .with("sheet", &long)
@@ -132,7 +124,7 @@ fn a_byte_more_is_too_long() {
 
 #[test]
 fn an_empty_file_is_read() {
-    let [sheet, record, _] = example("A1");
+    let Example { sheet, record, .. } = example("A1");
     assert_eq!(
         Folder::new("empty-sheet")
             .with("sheet", &[])

@@ -2,10 +2,11 @@
 
 mod common;
 
-use common::{code, complained, examples, printed, Folder};
+use common::{code, complained, printed, Folder};
 use plancheck::files::{laid_out, valid_sheet};
 use plancheck::pack::{pack, Packed};
 use plancheck::text::{write_record, write_sheet};
+use samples::examples::examples;
 use samples::stream;
 use std::collections::BTreeSet;
 use std::path::Path;
@@ -51,11 +52,11 @@ fn inverse(sheet: &[u8], record: &[u8]) -> bool {
 
 #[test]
 fn examples_come_back() {
-    for (_, sheet, record, line) in examples() {
-        let came = inverse(&sheet, &record);
-        let number = proved::judge(&sheet, &record).number;
+    for example in examples() {
+        let came = inverse(&example.sheet, &example.record);
+        let number = proved::judge(&example.sheet, &example.record).number;
         let laid_out = ![1, 2, 3, 4, 5, 7].contains(&number);
-        assert!(came || !laid_out, "{line}");
+        assert!(came || !laid_out, "{}", example.line);
     }
 }
 

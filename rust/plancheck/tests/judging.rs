@@ -2,17 +2,19 @@
 
 mod common;
 
-use common::{code, complained, examples, printed, Folder};
+use common::{code, complained, printed, Folder};
 use plancheck::explain::explain;
 use plancheck::refusals::{place_of, sentence, Place};
+use samples::examples::{example, examples, Example};
 use samples::stream;
 use std::collections::{BTreeMap, BTreeSet};
 
 #[test]
 fn examples_give_their_lines_and_exit_codes() {
     let folder = Folder::new("examples");
-    for (place, _, _, line) in examples() {
-        let files = ["sheet", "record"].map(|name| place.join(name).display().to_string());
+    for example in examples() {
+        let path = |name| example.folder.join(name).display().to_string();
+        let (files, line) = (["sheet", "record"].map(path), example.line);
         let wanted = i32::from(line.starts_with("refused"));
         let judged = folder.run(&["judge", &files[0], &files[1]]);
         assert_eq!((printed(&judged), code(&judged)), (line.clone(), wanted));
@@ -62,10 +64,7 @@ fn each_refusal_has_a_sentence_of_its_own() {
 #[test]
 fn stats_count_the_worked_pair() {
     let folder = Folder::new("stats");
-    let (_, sheet, record, _) = examples()
-        .into_iter()
-        .find(|(place, ..)| place.ends_with("A1"))
-        .unwrap();
+    let Example { sheet, record, .. } = example("A1");
     folder.write("sheet", &sheet);
     folder.write("record", &record);
     let counted = folder.run(&["stats", "sheet", "record"]);
@@ -97,7 +96,7 @@ fn stats_and_text_answer_to_every_sample() {
 /// Files cut anywhere are shown as far as they go.
 #[test]
 fn cut_files_are_explained() {
-    for (_, sheet, record, _) in examples() {
+    for Example { sheet, record, .. } in examples() {
         let cut_sheets = (0..sheet.len()).map(|end| (&sheet[..end], &record[..]));
         let cut_records = (0..record.len()).map(|end| (&sheet[..], &record[..end]));
         for (sheet, record) in cut_sheets.chain(cut_records) {

@@ -4,6 +4,7 @@
 
 pub mod damage;
 pub mod draft;
+pub mod examples;
 pub mod random;
 pub mod sheets;
 

@@ -53,19 +53,3 @@ pub fn complained(output: &Output) -> String {
 pub fn root() -> PathBuf {
     Path::new(env!("CARGO_MANIFEST_DIR")).join("../..")
 }
-
-/// Name, sheet, record and line of every example.
-pub fn examples() -> Vec<(PathBuf, Vec<u8>, Vec<u8>, String)> {
-    let folders = fs::read_dir(root().join("examples")).unwrap();
-    let folders = folders.map(|entry| entry.unwrap().path());
-    let examples: Vec<_> = folders
-        .filter(|folder| folder.is_dir())
-        .map(|folder| {
-            let read = |name| fs::read(folder.join(name)).unwrap();
-            let line = String::from_utf8(read("line")).unwrap();
-            (folder.clone(), read("sheet"), read("record"), line)
-        })
-        .collect();
-    assert_eq!(examples.len(), 16);
-    examples
-}
