@@ -67,9 +67,9 @@ rises-two part i k a c n l m h e =
     (rises-part part i n i k (omega arith) (omega arith)) (rises-part part i n a c l (omega arith))
 
 -- c literals more, right after the first k
-pub rises-more : (part : List ℕ) (i k c : ℕ) (before : Bool) {fine r : Bool} → fine ≡ before && risesFrom part i k
+pub rises-append : (part : List ℕ) (i k c : ℕ) (before : Bool) {fine r : Bool} → fine ≡ before && risesFrom part i k
     → r ≡ fine && risesFrom part (i + k) c → r ≡ before && risesFrom part i (k + c)
-rises-more part i k c before e h =
+rises-append part i k c before e h =
     let t = rises-two part i k (i + k) c (k + c) (omega arith) (omega arith) (omega arith) (omega arith) in
     rw (h, e, and-assoc before (risesFrom part i k) (risesFrom part (i + k) c), t)
 

@@ -1,7 +1,7 @@
 -- `layout::eight_rise` meets its contract: four literals, and four more.
 -- Assumes nothing.
 use borrow.Author.Needs.{needs}
-use Rattle.layout.proofs.Rise.{rises-more}
+use Rattle.layout.proofs.Rise.{rises-append}
 use Rattle.layout.proofs.eight_rise.Statement.{statement}
 use Rattle.layout.proofs.eight_rise.Tie as tie
 
@@ -17,7 +17,7 @@ four-rise-requires-2 c κs = search needs
 returns : tie.Need-returns
 returns c =
     let a = c .before .before .before .args in
-    rises-more (a .part .now) (a .i) 4 4 (a .fine) (c .before .four-rise .ensures) (c .four-rise2 .ensures)
+    rises-append (a .part .now) (a .i) 4 4 (a .fine) (c .before .four-rise .ensures) (c .four-rise2 .ensures)
 
 pub eight-rise-spec : {M : Type 1} → statement M
 eight-rise-spec =

@@ -3,7 +3,7 @@
 use borrow.Author.Needs.{needs}
 use Rattle.judgement.specs.Scan.{allOf}
 use Rattle.layout.specs.Rise.{risesFrom}
-use Rattle.layout.proofs.Rise.{rises-more}
+use Rattle.layout.proofs.Rise.{rises-append}
 use Rattle.layout.proofs.four_rise.Statement.{statement}
 use Rattle.layout.proofs.four_rise.Tie as tie
 
@@ -34,9 +34,9 @@ returns c =
     let a = c .before .before .before .before .before .args in
     let p = a .part .now in
     let one = c .before .before .before .is-rise .ensures in
-    let two = rises-more p (a .i) 1 1 (a .fine) one (c .before .before .is-rise2 .ensures) in
-    let three = rises-more p (a .i) 2 1 (a .fine) two (c .before .is-rise3 .ensures) in
-    rises-more p (a .i) 3 1 (a .fine) three (c .is-rise4 .ensures)
+    let two = rises-append p (a .i) 1 1 (a .fine) one (c .before .before .is-rise2 .ensures) in
+    let three = rises-append p (a .i) 2 1 (a .fine) two (c .before .is-rise3 .ensures) in
+    rises-append p (a .i) 3 1 (a .fine) three (c .is-rise4 .ensures)
 
 pub four-rise-spec : {M : Type 1} → statement M
 four-rise-spec =

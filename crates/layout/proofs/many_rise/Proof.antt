@@ -7,7 +7,7 @@ use mathlib.Core.Bool.{true}
 use native.Mathlib.Omega.{arith}
 use borrow.Author.Tests.{not-true, not-false}
 use Rattle.layout.specs.Rise.{risesFrom}
-use Rattle.layout.proofs.Rise.{rises-part, rises-stop, rises-join, rises-more, looks-hold, looks-fail}
+use Rattle.layout.proofs.Rise.{rises-part, rises-stop, rises-join, rises-append, looks-hold, looks-fail}
 use Rattle.layout.proofs.many_rise.Statement.{statement}
 use Rattle.layout.proofs.many_rise.Tie as tie
 
@@ -60,7 +60,7 @@ returns-2 : tie.Need-returns-2 Inv-loop μ-loop
 returns-2 c =
     let a = c .before .before .before .before .before .before .before .before .before .before .args in
     let at = c .before .before .before .lesser .result in
-    let r = rises-more (a .part .now) at 8 8 true (c .before .before .eight-rise3 .ensures) (c .before .eight-rise4 .ensures) in
+    let r = rises-append (a .part .now) at 8 8 true (c .before .before .eight-rise3 .ensures) (c .before .eight-rise4 .ensures) in
     sym (rises-stop (a .part .now) 0 (a .k) at 16 (omega arith) (omega arith) (sym r ∙ not-true _ (c .if2 .taken)))
 
 add-i : tie.Need-add-i Inv-loop μ-loop
@@ -74,7 +74,7 @@ loop-again c =
     let l = c .before .before .before .before .before .loop in
     let p = c .before .before .before .before .before .before .before .before .before .before .args .part .now in
     let at = c .before .before .before .lesser .result in
-    let r = rises-more p at 8 8 true (c .before .before .eight-rise3 .ensures) (c .before .eight-rise4 .ensures) in
+    let r = rises-append p at 8 8 true (c .before .before .eight-rise3 .ensures) (c .before .eight-rise4 .ensures) in
     let q = sym r ∙ not-false _ (c .if2 .left) in
     (omega arith, omega arith, rises-join p 0 (l .i) at 16 (at + 16) (omega arith) (omega arith) (l .inv .2) q, l .inv .3)
 
