@@ -1,7 +1,5 @@
 -- `checker::marks::look` meets its contract.
 -- Assumes nothing.
-use Prim.Native.Nat.{_+_, _^_, _%_, _<_}
-use mathlib.Core.Path.{_≡_, refl}
 use native.Mathlib.Omega.{arith}
 use borrow.Author.Needs.{needs}
 use Rattle.checker.proofs.marks.look.Statement.{statement}

@@ -1,7 +1,7 @@
 -- `checker::marks::mark_few` meets its contract. The invariant: i literals have been looked at. The measure is the number of
 -- literals left.
 -- Assumes nothing.
-use Prim.Native.Nat.{_+_, _*_, _-_, _^_, _≤_, _<_}
+use Prim.Native.Nat.{_*_, _-_, _^_, _≤_, _<_}
 use mathlib.Core.Path.{_≡_}
 use native.Mathlib.Omega.{arith}
 use lib.ListN.{length}
