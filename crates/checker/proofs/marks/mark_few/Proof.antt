@@ -6,7 +6,7 @@ use mathlib.Core.Path.{_≡_}
 use native.Mathlib.Omega.{arith}
 use lib.ListN.{length}
 use Rattle.judgement.specs.Literals.{count, holds}
-use Rattle.checker.specs.Marks.{Looked}
+use Rattle.checker.specs.Marks.{mostCodes, Looked}
 use Rattle.checker.proofs.Cited.{rising-few}
 use Rattle.checker.proofs.Marking.{look-none, look-size, look-on, looked-to}
 use Rattle.checker.proofs.marks.mark_few.Statement.{statement}
@@ -14,7 +14,7 @@ use Rattle.checker.proofs.marks.mark_few.Tie as tie
 
 abbrev Inv-loop : tie.InvT-loop
 Inv-loop marks₀ part t q sum₀ i₀ marks sum i =
-    (i ≤ q) × (q ≤ 1024) × (length marks ≡ 2050) × Looked part marks₀ t i marks sum × (sum ≤ i * 2 ^ 32)
+    (i ≤ q) × (q ≤ 1024) × (length marks ≡ mostCodes) × Looked part marks₀ t i marks sum × (sum ≤ i * 2 ^ 32)
 
 abbrev μ-loop : tie.MeasureT-loop
 μ-loop marks₀ part t q sum₀ i₀ marks sum i = q - i
