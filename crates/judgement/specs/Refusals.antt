@@ -1,4 +1,5 @@
--- What each refusal is told of, and so where its place lies: the last column of document 01's table of refusals.
+-- What each refusal is told of: the last column of document 01's table of refusals. It is some clause, or some step; which one
+-- is said by the tests (Order.antt).
 -- Assumes nothing.
 use Prim.Native.Nat.{ℕ, _≤_}
 use mathlib.Core.Path.{_≡_}
