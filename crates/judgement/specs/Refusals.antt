@@ -53,6 +53,6 @@ subjects =
     ∷ lastStep  -- 19, close
     ∷ []
 
--- refusal `number` may be told at p
-abbrev pub Lies : List ℕ → List ℕ → ℕ → ℕ → Type 0
-Lies s r number p = IsPlaceOf (getD subjects number nothing) s r p
+-- refusal `number` may be told at p; only 1 to 19 have a place (`numbered` in proofs/Order/Shape.antt)
+abbrev pub ToldAt : List ℕ → List ℕ → ℕ → ℕ → Type 0
+ToldAt s r number p = IsPlaceOf (getD subjects number nothing) s r p

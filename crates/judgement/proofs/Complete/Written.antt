@@ -13,16 +13,17 @@ use Rattle.judgement.specs.Meaning.{Assignment, positive, cost, Model, n
 use Rattle.judgement.specs.Pairs.{body}
 use Rattle.judgement.specs.Sheet.{variables, clauses, problemOf}
 use Rattle.judgement.specs.Record.{claim, steps, assignmentSize, stepPairsAt, assigned, step}
-use Rattle.judgement.specs.Step.{cited, pivotOf}
+use Rattle.judgement.specs.declared.Kind.the-variants.{Resolvent}
+use Rattle.judgement.specs.Step.{kindNumber, cited, pivotOf}
 use Rattle.judgement.specs.Writer.{bytesOf, pairsOf, joined, fileOf, assignmentOf, recordOf}
 use Rattle.judgement.specs.Facts.{Among, PairRule, ValidSheet, StepLayout, Resolution, Inference, copies, costs, resolution, Closes, Acceptable}
 use Rattle.judgement.specs.Demands.{IsBytes}
-use Rattle.judgement.proofs.Complete.Typed.{Typed, copyStep, costStep, resolveStep, codesOf, boundOf, bodyOf, bodiesOf, nth, Ascending, Obeys, Derivation}
+use Rattle.judgement.proofs.Complete.Typed.{Typed, copyStep, costStep, resolveStep, codesOf, boundOf, typedKind, tailOf, bodyOf, bodiesOf, nth, Ascending, Obeys, Derivation}
 use Rattle.judgement.proofs.Complete.Bytes.{length-bytes, number-of, drop-past, nil-bytes, bytes-are-bytes, append-bytes}
 use Rattle.judgement.proofs.Complete.Stored.{AllFit, ascending-fits}
 use Rattle.judgement.proofs.Complete.Tables.{length-file, file-body, file-pairs}
 use Rattle.judgement.proofs.Complete.Packed.{storedBit, packed-length, packed-bit, clear-bit}
-use Rattle.judgement.proofs.Complete.Bodies.{none-fits, kindNumber, tailOf, body-short, body-bytes, Stores, stores-body, says-in, says-layout, stores-copies, stores-costs}
+use Rattle.judgement.proofs.Complete.Bodies.{none-fits, body-short, body-bytes, Stores, stores-body, says-in, says-layout, stores-copies, stores-costs}
 use Rattle.judgement.proofs.Complete.Bodies.{resolution-x, resolution-y, resolution-pivot, resolution-size, States, resolves-bodies}
 
 -- ---- the record of any bodies
@@ -187,7 +188,7 @@ module _ (s : List ℕ) (valid : ValidSheet s) (ts : List Typed) (d : Derivation
   written-forms k w =
       let t = nth ts k in
       let w = rw written-steps at w in
-      says-layout (step s (written c bits ts) k) (kindNumber t) (codesOf t) (boundOf t) (tailOf t) (written-stores k w) s (valid .n .1)
+      says-layout (step s (written c bits ts) k) (kindNumber (typedKind t)) (codesOf t) (boundOf t) (tailOf t) (written-stores k w) s (valid .n .1)
       (d .ascending k w)
 
   -- the cost clause of step k
@@ -195,7 +196,7 @@ module _ (s : List ℕ) (valid : ValidSheet s) (ts : List Typed) (d : Derivation
   states k w =
       let t = nth ts k in
       record {
-        members = says-in (step s (written c bits ts) k) (kindNumber t) (codesOf t) (boundOf t) (tailOf t) (written-stores k w) (codes-fit k w);
+        members = says-in (step s (written c bits ts) k) (kindNumber (typedKind t)) (codesOf t) (boundOf t) (tailOf t) (written-stores k w) (codes-fit k w);
         bound-is = written-stores k w .bound-is;
       }
 
@@ -213,7 +214,7 @@ module _ (s : List ℕ) (valid : ValidSheet s) (ts : List Typed) (d : Derivation
         resolves = rw (cites-x, cites-y)
             (resolves-bodies (step s (written c bits ts) x) (step s (written c bits ts) y) here (codesOf (nth ts x)) (codesOf (nth ts y)) codes
             (boundOf (nth ts x)) (boundOf (nth ts y)) p (states x wx) (states y wy)
-            (record { members = says-in here 4 codes b (tailOf (resolveStep codes b x y p)) says f; bound-is = says .bound-is ∙ bound-is })
+            (record { members = says-in here (kindNumber Resolvent) codes b (tailOf (resolveStep codes b x y p)) says f; bound-is = says .bound-is ∙ bound-is })
             pivot px py res (variables s) a);
       }
     where
