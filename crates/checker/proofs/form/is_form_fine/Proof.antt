@@ -5,7 +5,7 @@ use native.Mathlib.Omega.{arith}
 use lib.ListN.{length}
 use borrow.Author.Needs.{needs}
 use borrow.Author.Tests.{eq-eqb, ne-eqb, le-leb, lt-leb, not-true, not-false}
-use Rattle.judgement.specs.Step.{literalCount, stepForm}
+use Rattle.judgement.specs.Step.{literalCount, formFine}
 use Rattle.checker.proofs.form.is_form_fine.Statement.{statement}
 use Rattle.checker.proofs.form.is_form_fine.Tie as tie
 
@@ -19,8 +19,8 @@ add-if1 : tie.Need-add-if1
 add-if1 c = search needs
 
 returns : tie.Need-returns
-unfolding stepForm
-returns c k =
+unfolding formFine
+returns c =
     let b = c .before .before .before .before .args .b .now in
     rw (lt-leb (12 + 2 * literalCount b) (length b) (omega arith))
 
@@ -28,8 +28,8 @@ read-u8-requires : tie.Need-read-u8-requires
 read-u8-requires c κs = search needs
 
 returns-2 : tie.Need-returns-2
-unfolding stepForm
-returns-2 c k =
+unfolding formFine
+returns-2 c =
     let b = c .before .before .before .before .before .before .args .b .now in
     rw (
       le-leb (12 + 2 * literalCount b) (length b) (omega arith),
@@ -50,8 +50,8 @@ literals-fine-requires : tie.Need-literals-fine-requires
 literals-fine-requires c κs = search needs
 
 returns-3 : tie.Need-returns-3
-unfolding stepForm
-returns-3 c k =
+unfolding formFine
+returns-3 c =
     let two = c .before .before .before .before in
     let b = two .before .before .before .before .before .before .args .b .now in
     rw (
@@ -71,12 +71,11 @@ is-tail-fine-requires : tie.Need-is-tail-fine-requires
 is-tail-fine-requires c κs = search needs
 
 returns-4 : tie.Need-returns-4
-unfolding stepForm
-returns-4 c k =
+unfolding formFine
+returns-4 c =
     let three = c .before .before in
     let two = three .before .before .before .before in
-    let a = two .before .before .before .before .before .before in
-    let b = a .args .b .now in
+    let b = two .before .before .before .before .before .before .args .b .now in
     rw (
       le-leb (12 + 2 * literalCount b) (length b) (omega arith),
       ← two .before .read-u8 .ensures .0,
@@ -85,7 +84,6 @@ returns-4 c k =
       ← three .before .before .variable-count .ensures .0,
       ← three .before .literals-fine .ensures,
       not-false (three .before .literals-fine .result) (three .if3 .left),
-      ← a .pre,
       ← c .before .tail-of .ensures,
       ← c .is-tail-fine .ensures,
     )
