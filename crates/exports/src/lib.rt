@@ -5,7 +5,8 @@ ghost use mathlib.Core.Path.{_≡_};
 ghost use mathlib.Core.Bool.{cond};
 ghost use lib.ListN.{length};
 ghost use Rattle.judgement.specs.Judgement.{judgement, shownPart};
-ghost use Rattle.exports.specs.Numbers.{answerNumbers, partNumbers, NumbersInside};
+ghost use Rattle.judgement.specs.Place.{Inside};
+ghost use Rattle.exports.specs.Numbers.{answerNumbers, partNumbers};
 
 fn put_answer(a: Answer, out: &mut [u64])
     requires { ⌜ length (now out) ≡ 5 ⌝ }
@@ -49,7 +50,7 @@ pub extern "C" fn plan_judge(sheet: &[u8], record: &[u8], answer: &mut [u64; 5])
 #[no_mangle]
 pub extern "C" fn plan_show(sheet: &[u8], record: &[u8], step: u32, part: &mut [u64; 3])
     ensures part { λ _. ⌜ now (part .exit) ≡ partNumbers (shownPart (now (sheet .entry)) (now («record» .entry)) step) ⌝ }
-    ensures inside { λ _. ⌜ NumbersInside (now (sheet .entry)) (now («record» .entry)) (now (part .exit)) ⌝ }
+    ensures inside { λ _. ⌜ Inside (now (sheet .entry)) (now («record» .entry)) (shownPart (now (sheet .entry)) (now («record» .entry)) step) ⌝ }
 {
     put_part(checker::shown_part(sheet, record, step), part);
 }

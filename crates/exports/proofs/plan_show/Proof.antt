@@ -2,7 +2,6 @@
 -- Assumes nothing.
 use mathlib.Core.Path.{ap, _∙_}
 use Rattle.exports.specs.Numbers.{partNumbers}
-use Rattle.exports.proofs.Inside.{numbers-inside}
 use borrow.Author.Needs.{needs}
 use Rattle.exports.proofs.plan_show.Statement.{statement}
 use Rattle.exports.proofs.plan_show.Tie as tie
@@ -16,7 +15,7 @@ put-part-requires c κs = search needs
 returns : tie.Need-returns
 returns c =
     let p = c .before .before .shown-part in
-    (c .put-part .ensures ∙ ap partNumbers (p .ensures .0), rw (c .put-part .ensures) (numbers-inside _ _ (p .result) (p .ensures .1)))
+    (c .put-part .ensures ∙ ap partNumbers (p .ensures .0), rw (p .ensures .0) at (p .ensures .1))
 
 pub plan-show-spec : {M : Type 1} → statement M
 plan-show-spec = tie.close (tie.spec shown-part-requires put-part-requires returns)
