@@ -11,7 +11,7 @@ use lib.Dec.{leb}
 use lib.Seq.{getD-drop}
 use Rattle.judgement.specs.Meaning.{Assignment, positive, cost, Model, none}
 use Rattle.judgement.specs.Pairs.{body}
-use Rattle.judgement.specs.Sheet.{variables, clauses, problemOf}
+use Rattle.judgement.specs.Sheet.{mostBytes, variables, clauses, problemOf}
 use Rattle.judgement.specs.Record.{claim, steps, assignmentSize, stepPairsAt, assigned, step}
 use Rattle.judgement.specs.declared.Kind.the-variants.{Resolvent}
 use Rattle.judgement.specs.Step.{kindNumber, cited, pivotOf}
@@ -155,7 +155,7 @@ module _ (s : List ℕ) (valid : ValidSheet s) (ts : List Typed) (d : Derivation
       let n = length-bodies ts in
       record-steps c bits (bodiesOf ts) (omega (arith, t, n)) ∙ n
 
-  pub written-size : length (written c bits ts) ≤ 4294967295
+  pub written-size : length (written c bits ts) ≤ mostBytes
   written-size =
       let h = size-fits in
       rw (record-length c bits (bodiesOf ts)) (omega (arith, h))
