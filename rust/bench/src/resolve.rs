@@ -69,17 +69,29 @@ impl Resolve for Merge {
 /// cannot be guessed. A second look at a code changes nothing.
 pub struct Marks {
     marks: [u32; CODES],
-    /// The greatest mark so far, an even number, or that and 1. A record of k steps has 8 k bytes at least, so that two marks
-    /// for each fit into 31 bits.
+    /// The least mark of the last step, an even number. A record of k steps has 8 k bytes at least, so that two marks for each
+    /// fit into 31 bits.
     last: u32,
 }
-
-/// What sets the pivot's mark apart.
-const PIVOT: u32 = 1 << 31;
 
 impl Marks {
     fn mark(&mut self, code: usize) -> &mut u32 {
         &mut self.marks[code % CODES]
+    }
+
+    /// Gives the codes of a premise the mark t, and the sum of what their marks were above it: 1 for one of d, 0 for one of d
+    /// that the other premise has too, and 2^31 at least for another. The pivot's counts as one of d, if it is there.
+    fn premise(&mut self, list: Codes, pivot: usize, t: u32) -> (bool, u64) {
+        *self.mark(pivot) = t + 1;
+        let mut sum = 0;
+        each(list, |code| {
+            let mark = self.mark(code);
+            sum += u64::from(mark.wrapping_sub(t));
+            *mark = t;
+        });
+        let found = *self.mark(pivot) == t;
+        *self.mark(pivot) = 0;
+        (found, sum)
     }
 }
 
@@ -98,34 +110,12 @@ impl Resolve for Marks {
             return false;
         }
         self.last += 2;
-        let of_d = self.last;
-        each(d, |code| *self.mark(code) = of_d);
-        // In what the marks of a differ from those of d: the pivot's in one bit, all others in none, or after a first look in
-        // the lowest.
-        *self.mark(up) = of_d | PIVOT;
-        let mut differ = 0;
-        each(a, |code| {
-            let mark = self.mark(code);
-            differ |= *mark ^ of_d;
-            *mark = of_d + 1;
-        });
-        *self.mark(up) = 0;
-        if differ | 1 != PIVOT | 1 {
-            return false;
-        }
-        // Those of b that are in a too have its mark, which is odd, until they are counted.
-        *self.mark(down) = of_d | PIVOT;
-        let mut differ = 0;
-        let mut shared = 0;
-        each(b, |code| {
-            let mark = self.mark(code);
-            differ |= *mark ^ of_d;
-            shared += *mark % 2;
-            *mark = of_d;
-        });
-        *self.mark(down) = 0;
-        // All of a and b but the pivot are in d. As many as d has: each of its literals is a premise's.
-        differ | 1 == PIVOT | 1 && a.len() + b.len() - 2 - shared as usize == d.len()
+        let t = self.last;
+        each(d, |code| *self.mark(code) = t + 1);
+        let (in_a, of_a) = self.premise(a, up, t);
+        let (in_b, of_b) = self.premise(b, down, t);
+        // All of a and b but the pivot are in d, and each of d is in one of them.
+        in_a && in_b && of_a + of_b == d.len() as u64 + 2
     }
 }
 
