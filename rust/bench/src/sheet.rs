@@ -8,7 +8,7 @@ pub(crate) struct Sheet<'a> {
     bytes: &'a [u8],
     variable_count: usize,
     /// What falsifying the literal with each code costs.
-    prices: [u32; CODES],
+    prices: [u64; CODES],
     /// What each costs as an unsettled literal.
     free_costs: [u64; CODES],
     pairs: Pairs<'a>,
@@ -43,8 +43,8 @@ impl<'a> Sheet<'a> {
         let mut prices = [0; CODES];
         let mut free_costs = [0; CODES];
         for (index, &cost) in stored.as_chunks().0.iter().enumerate() {
-            let (cost, positive) = (u32::from_le_bytes(cost), 2 * index + 2);
-            free_costs[positive % CODES] = u64::from(cost) + 1;
+            let (cost, positive) = (u64::from(u32::from_le_bytes(cost)), 2 * index + 2);
+            free_costs[positive % CODES] = cost + 1;
             prices[(positive + 1) % CODES] = cost;
         }
         let table = rest.get(..8 * m)?;
@@ -101,7 +101,7 @@ impl<'a> Sheet<'a> {
     /// What falsifying a literal costs: its variable's cost where it is negative, and so becomes true, else nothing. Which of
     /// both cannot be guessed, so that there is no branch.
     pub fn price(&self, code: usize) -> u64 {
-        u64::from(self.prices[code % CODES])
+        self.prices[code % CODES]
     }
 
     /// What a literal costs where it stands unsettled in a cited clause, plus 1; 0 for a negative one, which may not.
