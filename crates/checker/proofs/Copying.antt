@@ -12,13 +12,14 @@ use lib.Dec.{eqb, leb}
 use lib.ListN.{length, drop, length-take, length-drop}
 use borrow.Author.Tests.{eq-eqb, eqb-true, leb-true, le-leb}
 use Rattle.judgement.specs.Scan.{allOf}
+use Rattle.judgement.specs.Meaning.{none}
 use Rattle.judgement.specs.Number.{numberAt}
 use Rattle.judgement.specs.Literals.{count, code, sameLiterals, literalsFine}
 use Rattle.judgement.specs.declared.Finding.the-variants.{Fine, Fault}
-use Rattle.judgement.specs.Finding.{_then_}
+use Rattle.judgement.specs.Finding.{need, _then_}
 use Rattle.judgement.specs.Sheet.{variables, clauses, clausePairsAt, clause}
 use Rattle.judgement.specs.declared.Kind.the-variants.{Copy}
-use Rattle.judgement.specs.Step.{kindOf, literalCount, literals, tail, cited, tailFine, formFine, stepForm, citesFine, citation}
+use Rattle.judgement.specs.Step.{kindOf, literalCount, bound, literals, tail, cited, tailFine, formFine, stepForm, citesFine, citation}
 use Rattle.judgement.specs.Kinds.{copyFinding}
 use Rattle.judgement.specs.Demands.{IsBytes}
 use Rattle.judgement.specs.Facts.{Among, LiteralList, ValidSheet}
@@ -31,6 +32,7 @@ use Rattle.checker.specs.Read.{Within}
 use Rattle.checker.specs.Copy.{sameFrom, isCopied, copies}
 use Rattle.checker.proofs.Body.{pair-within}
 use Rattle.checker.proofs.Marking.{true-same}
+use Rattle.checker.proofs.Known.{fine-need}
 
 -- ---- four codes in one number
 
@@ -184,6 +186,11 @@ module _ (b : List ℕ) (size : length b ≡ 16 + 2 * literalCount b) where
   whole-list = omega (arith, size, length-take (2 * literalCount b) (drop 12 b), length-drop 12 b)
 
 module _ (s b : List ℕ) where
+  -- what refusal 12 looks at
+  pub copied-when : isCopied s b ≡ sameLiterals (literals b) (clause s (cited b 1)) && eqb (bound b) none
+  unfolding isCopied copyFinding
+  copied-when = sym (fine-need _ 12 0)
+
   -- what it has if it passes
   module _ (p : copies s b ≡ true) where
     pub passing-size : length b ≡ 16 + 2 * literalCount b
@@ -211,10 +218,9 @@ module _ (s b : List ℕ) where
     -- one that is as long as it has to be passes exactly where it copies the clause: its literals are then in form as the clause's
     module _ (size : length b ≡ 16 + 2 * literalCount b) where
       in-form : isCopied s b ≡ true → literalsFine (variables s) (literals b) ≡ true
-      unfolding isCopied
       in-form p =
           let C = clause s (cited b 1) in
-          let same : sameLiterals (literals b) C ≡ true = search (p, and-l) in
+          let same = and-l (sameLiterals (literals b) C) (eqb (bound b) none) (sym copied-when ∙ p) in
           list-fine (variables s) (literals b)
           (same-list (literals b) C (variables s) (whole-list b size) same (valid .lists (cited b 1) cited-among))
 
@@ -228,18 +234,23 @@ module _ (s b : List ℕ) where
 
   -- ---- refusals 8, 9 and 12
 
+  -- which step it is matters only for the fault's place
+  copy-when : (k : ℕ) → copyFinding s b k ≡ need (isCopied s b) 12 k
+  unfolding copyFinding
+  copy-when k = rw copied-when
+
   module _ (k : ℕ) (kind : kindOf b ≡ Copy) where
     pub copy-fine : copies s b ≡ true → Fine ≡ (stepForm s b k then citation s b k then copyFinding s b k)
-    unfolding copies isCopied stepForm citation citesFine copyFinding
+    unfolding copies stepForm citation citesFine
     copy-fine p =
         let form : formFine Copy s b ≡ true = search (p, and-l) in
         let copied : isCopied s b ≡ true = search (p, and-r) in
-        rw (kind, form, passing-cited p, copied)
+        rw (kind, form, passing-cited p, copy-when k, copied)
 
     pub copy-fault : Formed s b k → copies s b ≡ false → Fault 12 k ≡ copyFinding s b k
-    unfolding copies isCopied stepForm citation citesFine copyFinding
+    unfolding copies stepForm citation citesFine
     copy-fault formed e =
         let form = rw kind at (need-true (formFine (kindOf b) s b) 8 k (formed .form)) in
         let cites = rw kind at (need-true (citesFine (kindOf b) s k b) 9 k (formed .cites)) in
         let z : isCopied s b ≡ false = rw (form, cites) at e in
-        rw z
+        rw (copy-when k, z)

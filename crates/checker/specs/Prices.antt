@@ -20,9 +20,8 @@ pub record Prices (s prices : List ℕ) : Type 0 where
   pub size : length prices ≡ mostCodes
   pub each : (c : ℕ) → Among (variables s) (variableOf c) → priceAt prices c ≡ cond (isPositive c) 0 (costOf s (variableOf c))
 
--- the free cost of a literal: 1 more than what it costs where it is unsettled in a cited clause, and 0 for a negative one, which
--- may not be
-pub record FreeCosts (s costs : List ℕ) : Type 0 where
+-- 1 more than what a literal costs where it is unsettled in a cited clause, and 0 for a negative one, which may not be
+pub record UnsettledCosts (s costs : List ℕ) : Type 0 where
   pub size : length costs ≡ mostCodes
   pub each : (c : ℕ) → Among (variables s) (variableOf c) → priceAt costs c ≡ cond (isPositive c) (costOf s (variableOf c) + 1) 0
 
@@ -30,6 +29,6 @@ pub record FreeCosts (s costs : List ℕ) : Type 0 where
 abbrev pub priceSum : List ℕ → List ℕ → ℕ
 priceSum prices part = sumOf (λ i. priceAt prices (code part i)) (count part)
 
--- each of these is that of a variable, which is below 2 ^ 32
+-- each of these is below 2 ^ 32, as the cost of a variable is
 abbrev pub Cheap : List ℕ → List ℕ → Type 0
 Cheap prices part = (i : ℕ) → Among (count part) i → priceAt prices (code part i) < 2 ^ 32

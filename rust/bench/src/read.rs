@@ -38,19 +38,29 @@ pub(crate) fn codes(bytes: &[u8]) -> Codes<'_> {
     bytes.as_chunks().0
 }
 
-/// How many codes are gone through at once. Where a loop over single codes ends cannot be guessed; where one over eight ends
-/// mostly can, and the compiler compares eight by one instruction.
+/// How many codes are compared at once: the compiler makes one instruction of it.
 const LANES: usize = 8;
 
-/// Looks at every code of a list, at some of them twice: the last eight come once more, so that there is no rest.
+/// Looks at every code of a list, at some of them twice. A short one is gone through in fours, a long one in eights.
 #[inline]
-pub(crate) fn each(list: Codes, mut look: impl FnMut(usize)) {
+pub(crate) fn each(list: Codes, look: impl FnMut(usize)) {
+    if list.len() < 16 {
+        by::<4>(list, look);
+    } else {
+        by::<8>(list, look);
+    }
+}
+
+/// Looks at N codes at once, and at the end at the last N, whether looked at or not: where a loop over single codes ends cannot
+/// be guessed, and where one over several ends mostly can.
+#[inline]
+fn by<const N: usize>(list: Codes, mut look: impl FnMut(usize)) {
     let mut all = |codes: Codes| codes.iter().for_each(|&stored| look(code(stored)));
-    let Some(last) = list.last_chunk::<LANES>() else {
+    let Some(last) = list.last_chunk::<N>() else {
         return all(list);
     };
-    for eight in list.as_chunks::<LANES>().0 {
-        all(eight);
+    for several in list[..list.len() - 1].as_chunks::<N>().0 {
+        all(several);
     }
     all(last);
 }

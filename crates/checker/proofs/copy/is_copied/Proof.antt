@@ -2,7 +2,7 @@
 -- Assumes nothing.
 use borrow.Author.Needs.{needs}
 use Rattle.judgement.specs.Meaning.{none}
-use Rattle.checker.specs.Copy.{isCopied}
+use Rattle.checker.proofs.Copying.{copied-when}
 use Rattle.checker.proofs.copy.is_copied.Statement.{statement}
 use Rattle.checker.proofs.copy.is_copied.Tie as tie
 
@@ -31,11 +31,12 @@ both-requires : tie.Need-both-requires
 both-requires c κs = search needs
 
 returns : tie.Need-returns
-unfolding isCopied none
+unfolding none
 returns c =
     let same = c .before .before in
     let body = same .before .before in
     rw (
+      copied-when,
       ← same .before .whole-literals .ensures,
       ← body .before .whole-cited .ensures,
       ← body .before .before .clause-pairs-at .ensures .0,

@@ -65,7 +65,7 @@ returns c =
     let size-3 = look-size (three .0) size-2 in (
       look-size (four .0) size-3,
       (
-        λ before j h h' k.
+        λ before j h k.
             let k-1 = look-on (one .0) l (omega arith) u (s .pre .0) h k in
             let k-2 = look-on (two .0) l (omega arith) u size-1 (omega arith) k-1 in
             let k-3 = look-on (three .0) l (omega arith) u size-2 (omega arith) k-2 in

@@ -1,6 +1,5 @@
 -- `checker::step::whole_pivot` meets its contract: the two bytes after the tail's first two numbers.
 -- Assumes nothing.
-use native.Mathlib.Omega.{arith}
 use borrow.Author.Needs.{needs}
 use Rattle.checker.proofs.step.whole_pivot.Statement.{statement}
 use Rattle.checker.proofs.step.whole_pivot.Tie as tie
