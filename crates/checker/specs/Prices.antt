@@ -25,6 +25,11 @@ pub record UnsettledCosts (s costs : List ℕ) : Type 0 where
   pub size : length costs ≡ mostCodes
   pub each : (c : ℕ) → Among (variables s) (variableOf c) → priceAt costs c ≡ cond (isPositive c) (costOf s (variableOf c) + 1) 0
 
+-- the two arrays for the sheet s
+pub record CostArrays (s prices costs : List ℕ) : Type 0 where
+  pub falsified : Prices s prices
+  pub unsettled : UnsettledCosts s costs
+
 -- the prices of the literals of a list, added up
 abbrev pub priceSum : List ℕ → List ℕ → ℕ
 priceSum prices part = sumOf (λ i. priceAt prices (code part i)) (count part)

@@ -115,7 +115,10 @@ returns c =
     let l = c .before .loop in
     let a = c .before .before .before .before in
     let end : l .v ≡ variables (a .args .s .now) = omega (arith, c .before .before .variable-count .ensures .0) in
-    (record { size = l .inv .1; each = rw end at (l .inv .3) }, record { size = l .inv .2; each = rw end at (l .inv .4) })
+    record {
+      falsified = record { size = l .inv .1; each = rw end at (l .inv .3) };
+      unsettled = record { size = l .inv .2; each = rw end at (l .inv .4) };
+    }
 
 pub set-costs-spec : {M : Type 1} → statement M
 set-costs-spec =

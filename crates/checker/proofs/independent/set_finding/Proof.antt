@@ -32,10 +32,10 @@ mark-settled-requires c κs =
     let b = a .args .b .now in
     let bytes : IsBytes s = λ i. p .shared-slice-known .given i .fits in
     let e = c .whole-literals .ensures in (
-      a .pre .4,
-      a .pre .2 .size,
+      a .pre .3,
+      a .pre .2 .falsified .size,
       literals-list s b (a .pre .0) e,
-      rw e (cheap s (a .args .prices .now) _ bytes (a .pre .2) (a .pre .0 .list)),
+      rw e (cheap s (a .args .prices .now) _ bytes (a .pre .2 .falsified) (a .pre .0 .list)),
       omega arith,
     )
 
@@ -54,7 +54,7 @@ loop-holds c =
     let a = list .before .before .before .before in
     let e = list .whole-literals .ensures in
     let settled = c .before .before .mark-settled .ensures in
-    let cost = price-sum (a .args .s .now) (a .args .prices .now) (list .whole-literals .result .now) (a .pre .2) (rw e (a .pre .0 .list)) in
+    let cost = price-sum (a .args .s .now) (a .args .prices .now) (list .whole-literals .result .now) (a .pre .2 .falsified) (rw e (a .pre .0 .list)) in
     (omega arith, cleared-start e (settled .0) (settled .1 .0 ∙ cost) (settled .1 .1))
 
 cited-clause-requires : tie.Need-cited-clause-requires Inv-loop μ-loop
@@ -73,7 +73,7 @@ look-at-requires c κs =
     let list =
     next-list (a .args .s .now) (a .args .b .now) (at .loop .j) (a .pre .0) (tail .whole-tail .ensures) (pairs .clause-pairs-at .ensures .0)
     (omega arith) (c .before .cited-clause .ensures) in
-    (at .loop .inv .1 .marked .stale, a .pre .3 .size, list-within _ 1024 (a .pre .0 .n) list, omega arith)
+    (at .loop .inv .1 .marked .stale, a .pre .2 .unsettled .size, list-within _ 1024 (a .pre .0 .n) list, omega arith)
 
 returns : tie.Need-returns Inv-loop μ-loop
 returns c =
@@ -89,7 +89,7 @@ returns c =
     let bytes : IsBytes s = λ i. p .shared-slice-known .given i .fits in
     let stop =
     next-stop s b (a .pre .0) bytes (tail .whole-tail .ensures) (pairs .clause-pairs-at .ensures .0)
-    (omega (arith, d .before .before .before)) (d .before .before .cited-clause .ensures) (l .inv .1) (a .pre .3) (d .look-at .ensures .1) (c .if1 .taken) in
+    (omega (arith, d .before .before .before)) (d .before .before .cited-clause .ensures) (l .inv .1) (a .pre .2 .unsettled) (d .look-at .ensures .1) (c .if1 .taken) in
     (d .look-at .ensures .0, stop)
 
 add-sum : tie.Need-add-sum Inv-loop μ-loop
@@ -106,7 +106,7 @@ add-sum c =
     let bytes : IsBytes s = λ i. p .shared-slice-known .given i .fits in
     let low =
     next-below s b (a .pre .0) bytes (tail .whole-tail .ensures) (pairs .clause-pairs-at .ensures .0)
-    (omega (arith, d .before .before .before)) (d .before .before .cited-clause .ensures) (l .inv .1) (a .pre .3) (d .look-at .ensures .1) (c .before .if1 .left) in
+    (omega (arith, d .before .before .before)) (d .before .before .cited-clause .ensures) (l .inv .1) (a .pre .2 .unsettled) (d .look-at .ensures .1) (c .before .if1 .left) in
     omega (arith, low)
 
 add-j : tie.Need-add-j Inv-loop μ-loop
@@ -129,7 +129,7 @@ loop-again c =
     let bytes : IsBytes s = λ i. p .shared-slice-known .given i .fits in
     let more =
     next-more s b (a .pre .0) bytes (tail .whole-tail .ensures) (pairs .clause-pairs-at .ensures .0)
-    (omega (arith, d .before .before .before)) (d .before .before .cited-clause .ensures) (l .inv .1) (a .pre .3) (d .look-at .ensures .1) (c .before .if1 .left) in
+    (omega (arith, d .before .before .before)) (d .before .before .cited-clause .ensures) (l .inv .1) (a .pre .2 .unsettled) (d .look-at .ensures .1) (c .before .if1 .left) in
     (omega (arith, d .before .before .before), more)
 
 whole-bound-requires : tie.Need-whole-bound-requires Inv-loop μ-loop
