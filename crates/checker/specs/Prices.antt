@@ -1,4 +1,4 @@
--- What literals cost, in two arrays with a number for each code, which are made once for a sheet.
+-- What literals cost, in two arrays with a number for each code, which are made once for a record.
 -- Assumes nothing.
 use Prim.Native.Nat.{ℕ, _+_, _^_, _<_}
 use mathlib.Core.Path.{_≡_}
