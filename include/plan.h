@@ -21,7 +21,7 @@ extern "C" {
 enum { PLAN_NUMBER, PLAN_PLACE, PLAN_COST, PLAN_OPEN_COUNT, PLAN_STEP_COUNT };
 
 /* Judges a record. The number is 0 for an acceptance, with the claim, the count of true variables and the count of steps;
- * else it is the refusal's, 1 to 19, with its place, and the last three are 0. */
+ * else it is the refusal's in the table of docs/FORMATS.md, with its place, and the last three are 0. */
 void plan_judge(const uint8_t *sheet, size_t sheet_len, const uint8_t *record, size_t record_len, uint64_t answer[5]);
 
 /* Where the literals of a step stand: part[0] is 1 for the sheet or 0 for the record, part[1] the first byte, part[2] how many

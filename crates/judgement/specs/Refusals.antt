@@ -1,5 +1,5 @@
--- What each refusal is told of: the last column of document 01's table of refusals. It is some clause, or some step; which one
--- is said by the tests (Order.antt).
+-- What each refusal is told of: the last column of document 01's table of refusals, which document 02 goes on with. It is some
+-- clause, or some step; which one is said by the tests (Order.antt).
 -- Assumes nothing.
 use Prim.Native.Nat.{ℕ, _≤_}
 use mathlib.Core.Path.{_≡_}
@@ -28,7 +28,7 @@ IsPlaceOf aStep s r p = Among (steps r) p
 IsPlaceOf lastStep s r p = (p ≡ steps r) × (1 ≤ p)
 IsPlaceOf nothing s r p = ⊥
 
--- by number, from 0, which no refusal has
+-- the table, by number, from 0, which no refusal has; its last line is the greatest number
 abbrev pub subjects : List Subject
 subjects =
     nothing
@@ -51,8 +51,11 @@ subjects =
     ∷ aStep  -- 17, resolvent
     ∷ aStep  -- 18, lesser bound
     ∷ lastStep  -- 19, close
+    ∷ aStep  -- 20, unsettled shut
+    ∷ aStep  -- 21, all settled
+    ∷ aStep  -- 22, shared paddle
     ∷ []
 
--- refusal `number` may be told at p; only 1 to 19 have a place (`numbered` in proofs/Order/Shape.antt)
+-- refusal `number` may be told at p; only a number of the table has a place (`numbered` in proofs/Order/Shape.antt)
 abbrev pub ToldAt : List ℕ → List ℕ → ℕ → ℕ → Type 0
 ToldAt s r number p = IsPlaceOf (getD subjects number nothing) s r p

@@ -2,10 +2,11 @@
 -- and the sum has what they cost at least. The measure is the number of clauses left.
 -- Assumes nothing.
 use Prim.Native.Nat.{_-_, _≤_}
-use mathlib.Core.Path.{_≡_, _∙_}
+use mathlib.Core.Path.{_≡_, refl, _∙_}
 use native.Mathlib.Omega.{arith}
 use Rattle.judgement.specs.Step.{citedCount}
 use Rattle.judgement.specs.Demands.{IsBytes}
+use Rattle.judgement.proofs.Laws.Scan.{clash}
 use Rattle.checker.proofs.Cited.{literals-list, next-within, next-list, list-within}
 use Rattle.checker.proofs.Pricing.{price-sum, cheap}
 use Rattle.checker.proofs.Conditions.{Cleared, cleared-start, next-stop, next-below, next-more, bound-fault, bound-fine}
@@ -75,9 +76,35 @@ look-at-requires c κs =
     (omega arith) (c .before .cited-clause .ensures) in
     (at .loop .inv .1 .marked .stale, a .pre .2 .unsettled .size, list-within _ 1024 (a .pre .0 .n) list, omega arith)
 
+add-clause-finding : tie.Need-add-clause-finding Inv-loop μ-loop
+add-clause-finding c = omega arith
+
+clause-finding-requires : tie.Need-clause-finding-requires Inv-loop μ-loop
+clause-finding-requires c κs =
+    let d = c .before .before .before in
+    let at = d .before .before .before .before in
+    let pairs = at .before in
+    let tail = pairs .before in
+    let p = tail .before .before .before .before .before in
+    let a = p .before in
+    let s = a .args .s .now in
+    let b = a .args .b .now in
+    let bytes : IsBytes s = λ i. p .shared-slice-known .given i .fits in
+    let list =
+    next-list s b (at .loop .j) (a .pre .0) (tail .whole-tail .ensures) (pairs .clause-pairs-at .ensures .0)
+    (omega (arith, d .before .before .before)) (d .before .before .cited-clause .ensures) in (
+      d .look-at .ensures .0,
+      a .pre .2 .falsified .size,
+      record { room = a .pre .1; list = literals-list s b (a .pre .0) refl },
+      cheap s (a .args .prices .now) _ bytes (a .pre .2 .falsified) (a .pre .0 .list),
+      list-within _ 1024 (a .pre .0 .n) list,
+      omega arith,
+    )
+
 returns : tie.Need-returns Inv-loop μ-loop
 returns c =
-    let d = c .before .before in
+    let i = c .before .before in
+    let d = i .before .before in
     let at = d .before .before .before .before in
     let l = at .loop in
     let pairs = at .before in
@@ -89,8 +116,8 @@ returns c =
     let bytes : IsBytes s = λ i. p .shared-slice-known .given i .fits in
     let stop =
     next-stop s b (a .pre .0) bytes (tail .whole-tail .ensures) (pairs .clause-pairs-at .ensures .0)
-    (omega (arith, d .before .before .before)) (d .before .before .cited-clause .ensures) (l .inv .1) (a .pre .2 .unsettled) (d .look-at .ensures .1) (c .if1 .taken) in
-    (d .look-at .ensures .0, stop)
+    (omega (arith, d .before .before .before)) (d .before .before .cited-clause .ensures) (l .inv .1) (a .pre .2 .unsettled) (d .look-at .ensures .1) (i .if1 .taken) (c .clause-finding .ensures) in
+    (λ fine. absurd (clash fine (stop .0)), stop .1)
 
 add-sum : tie.Need-add-sum Inv-loop μ-loop
 add-sum c =
@@ -141,7 +168,7 @@ returns-2 c =
     let tail = c .before .before .before .before .before in
     let b = tail .before .before .before .before .before .before .args .b .now in
     let end : l .j ≡ citedCount b = rw (← tail .whole-tail .ensures) (omega arith) in
-    (l .inv .1 .marked .stale, bound-fault (l .inv .1) end (c .before .whole-bound .ensures) (c .if2 .taken))
+    (λ fine. l .inv .1 .marked .stale, bound-fault (l .inv .1) end (c .before .whole-bound .ensures) (c .if2 .taken))
 
 returns-3 : tie.Need-returns-3 Inv-loop μ-loop
 returns-3 c =
@@ -149,7 +176,7 @@ returns-3 c =
     let tail = c .before .before .before .before .before in
     let b = tail .before .before .before .before .before .before .args .b .now in
     let end : l .j ≡ citedCount b = rw (← tail .whole-tail .ensures) (omega arith) in
-    (l .inv .1 .marked .stale, bound-fine (l .inv .1) end (c .before .whole-bound .ensures) (c .if2 .left))
+    (λ fine. l .inv .1 .marked .stale, bound-fine (l .inv .1) end (c .before .whole-bound .ensures) (c .if2 .left))
 
 pub set-finding-spec : {M : Type 1} → statement M
 set-finding-spec =
@@ -166,6 +193,8 @@ set-finding-spec =
     loop-holds
     cited-clause-requires
     look-at-requires
+    add-clause-finding
+    clause-finding-requires
     returns
     add-sum
     add-j
