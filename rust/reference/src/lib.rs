@@ -1,7 +1,8 @@
-//! The reference checker: document 01 in the plainest Rust there is.
+//! The reference checker: document 01, with change 1 of document 02, in the plainest Rust there is.
 //!
 //! It exists to be compared with the proved checker, so it shares nothing with it and prefers sets, copies and
-//! wide numbers to speed. Each function is meant to be held beside one row of document 01's refusal table.
+//! wide numbers to speed. Each function is meant to be held beside one row of document 01's refusal table,
+//! or beside those that one kind of step has.
 //!
 //! The code uses the field's words; document 01 uses the trade's:
 //!
@@ -41,7 +42,7 @@ pub const NONE: u64 = u64::MAX;
 /// The judgement on a sheet and a record.
 #[derive(Clone, Copy, Debug, PartialEq, Eq)]
 pub struct Answer {
-    /// 0 for an acceptance, else the refusal's number, 1 to 19.
+    /// 0 for an acceptance, else the refusal's number, 1 to 22.
     pub number: u32,
     /// The clause or step that the refusal names; 0 for an acceptance and where there is none to name.
     pub place: u64,

@@ -1,4 +1,5 @@
-//! The refusals, under the words of document 01's table.
+//! The refusals, under the words of document 01's table. Document 02 adds numbers to the table without words; from
+//! 20 on the words are the project's own.
 
 /// A refusal with the clause or step it is told at.
 #[derive(Clone, Copy, Debug, PartialEq, Eq)]
@@ -31,3 +32,6 @@ pub(crate) const PIVOT: u32 = 16;
 pub(crate) const RESOLVENT: u32 = 17;
 pub(crate) const LESSER_BOUND: u32 = 18;
 pub(crate) const CLOSE: u32 = 19;
+pub(crate) const UNSETTLED_SHUT: u32 = 20;
+pub(crate) const ALL_SETTLED: u32 = 21;
+pub(crate) const SHARED_PADDLE: u32 = 22;

@@ -1,4 +1,4 @@
-//! One step: its form, its citations, and the numbers of its kind (refusals 8, 9 and 12 to 18).
+//! One step: its form, its citations, and the numbers of its kind (refusals 8, 9, 12 to 18 and 20 to 22).
 
 use crate::cost_clause::CostClause;
 use crate::independent;
@@ -99,7 +99,7 @@ fn citations_hold(inference: &Inference, clause_count: u64, step_number: u64) ->
     }
 }
 
-/// Refusals 12 to 18: those of the step's own kind, rising.
+/// Refusals 12 to 18 and 20 to 22: those of the step's own kind, in the order of the kind.
 fn check_inference(sheet: &Sheet, earlier: &[CostClause], step: &Step) -> Result<(), u32> {
     let conclusion = &step.cost_clause;
     match &step.inference {

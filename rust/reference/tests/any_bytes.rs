@@ -9,7 +9,7 @@ use std::collections::BTreeSet;
 
 /// What document 01 says of every answer, whatever the files.
 fn check_shape(sheet: &[u8], record: &[u8], answer: &Answer) {
-    assert!(answer.number <= 19);
+    assert!(answer.number <= 22);
     assert_eq!(sheet_is_valid(sheet), !(1..=4).contains(&answer.number));
     if answer.number == 0 {
         assert!(within_reach(sheet) && confirms(sheet, record, answer));
@@ -32,27 +32,44 @@ fn check_showing(sheet: &[u8], record: &[u8], step: u64) {
     assert!(inside(sheet) || inside(record));
 }
 
-#[test]
-fn every_byte_of_case_a_set_to_every_value() {
-    let (sheet, record) = (sheet_a(), record_a());
+/// Every byte of either file set to every value, one byte at a time: the numbers of the answers.
+fn met_by_one_byte(sheet: &[u8], record: &[u8]) -> BTreeSet<u32> {
     let mut met = BTreeSet::new();
     for value in 0..=255 {
         for at in 0..sheet.len() {
-            let damaged = edited(&sheet, at, &[value]);
-            let answer = judge(&damaged, &record);
-            check_shape(&damaged, &record, &answer);
+            let damaged = edited(sheet, at, &[value]);
+            let answer = judge(&damaged, record);
+            check_shape(&damaged, record, &answer);
             met.insert(answer.number);
         }
         for at in 0..record.len() {
-            let damaged = edited(&record, at, &[value]);
-            let answer = judge(&sheet, &damaged);
-            check_shape(&sheet, &damaged, &answer);
-            check_showing(&sheet, &damaged, at as u64 % 7);
+            let damaged = edited(record, at, &[value]);
+            let answer = judge(sheet, &damaged);
+            check_shape(sheet, &damaged, &answer);
+            check_showing(sheet, &damaged, at as u64 % 7);
             met.insert(answer.number);
         }
     }
-    let never = [1, 15, 19];
-    let expected: BTreeSet<u32> = (0..=19).filter(|n| !never.contains(n)).collect();
+    met
+}
+
+/// Of the numbers of kind 3 there is 21 alone: one byte makes a step of kind 3 from a copy of a clause, and a copy
+/// settles every variable of its clause. The rest are case C's, but for 1, which takes files of 4 GiB.
+#[test]
+fn every_byte_of_case_a_set_to_every_value() {
+    let met = met_by_one_byte(&sheet_a(), &record_a());
+    let never = [1, 14, 15, 19, 20, 22];
+    let expected: BTreeSet<u32> = (0..=22).filter(|n| !never.contains(n)).collect();
+    assert_eq!(met, expected);
+}
+
+/// One step of kind 3 that does not close, so there is no acceptance and no number of another kind. One byte does
+/// not settle all variables of a cited clause, so there is no 21.
+#[test]
+fn every_byte_of_case_c1_set_to_every_value() {
+    let met = met_by_one_byte(&sheet_c(), &record_c1());
+    let never = [0, 1, 12, 13, 16, 17, 18, 21];
+    let expected: BTreeSet<u32> = (0..=22).filter(|n| !never.contains(n)).collect();
     assert_eq!(met, expected);
 }
 
@@ -86,13 +103,13 @@ fn random_bytes() {
     assert_eq!(met, BTreeSet::from([2, 3, 5, 7]));
 }
 
-/// Step bodies of random bytes inside a record whose pairs are in order, so that every body is opened.
-#[test]
-fn random_step_bodies() {
+/// Step bodies of random bytes inside a record whose pairs are in order, so that every body is opened: the numbers
+/// of the answers. Variable 1 alone is true.
+fn met_by_random_bodies(sheet: &[u8], claim: u64, whole: &[Vec<u8>]) -> BTreeSet<u32> {
     let mut numbers = Numbers::from(4);
     let mut met = BTreeSet::new();
     for _ in 0..100_000 {
-        let mut steps = steps_a();
+        let mut steps = whole.to_vec();
         for body in &mut steps {
             if numbers.below(3) == 0 {
                 let at = numbers.below(body.len());
@@ -102,11 +119,29 @@ fn random_step_bodies() {
                 body.truncate(numbers.below(26));
             }
         }
-        let record = record(3, &[0x01], &steps);
-        let answer = judge(&sheet_a(), &record);
-        check_shape(&sheet_a(), &record, &answer);
-        check_showing(&sheet_a(), &record, numbers.below(7) as u64);
+        let record = record(claim, &[0x01], &steps);
+        let answer = judge(sheet, &record);
+        check_shape(sheet, &record, &answer);
+        check_showing(sheet, &record, numbers.below(7) as u64);
         met.insert(answer.number);
     }
-    assert_eq!(met, BTreeSet::from([0, 8, 9, 12, 13, 14, 16, 17, 18]));
+    met
+}
+
+#[test]
+fn random_step_bodies_of_kinds_1_2_and_4() {
+    let met = met_by_random_bodies(&sheet_a(), 3, &steps_a());
+    assert_eq!(met, BTreeSet::from([0, 8, 9, 12, 13, 16, 17, 18, 21]));
+}
+
+/// Case C1's step between a copy of clause 1 and a step that closes at 1, which is what clause 1 costs.
+#[test]
+fn random_step_bodies_of_kinds_1_and_3() {
+    let whole = [
+        clause_step(CLAUSES_C[0], 1),
+        independent_step(&[pos(5), neg(6)], 9, &[1, 2]),
+        independent_step(&[], 1, &[1]),
+    ];
+    let met = met_by_random_bodies(&sheet_c(), 1, &whole);
+    assert_eq!(met, BTreeSet::from([0, 8, 9, 12, 14, 15, 20, 21, 22]));
 }

@@ -8,10 +8,13 @@ use reference::judge;
 use std::collections::BTreeSet;
 
 /// A sheet as lists, and the steps derived from it so far.
+#[derive(Clone)]
 struct Derivation {
     costs: Vec<u32>,
     clauses: Vec<Vec<u16>>,
     steps: Vec<Vec<u8>>,
+    /// An independent set whose bound reaches this is a leaf. No bound of one reaches "none".
+    enough: u64,
 }
 
 /// A derived cost clause and the number of its step.
@@ -41,6 +44,15 @@ impl Derivation {
             costs,
             clauses,
             steps: vec![],
+            enough: NONE,
+        }
+    }
+
+    /// The same sheet, with independent sets for leaves wherever they bear out the least cost.
+    fn with_independent_sets(&self) -> Derivation {
+        Derivation {
+            enough: least_cost(&self.sheet()).unwrap_or(NONE),
+            ..self.clone()
         }
     }
 
@@ -90,12 +102,56 @@ impl Derivation {
         self.clauses.iter().position(is_broken)
     }
 
-    /// A clause that the values break, or the cost of them all.
+    /// Clauses that are independent under the values and of one another, each taken if those before it let it, and
+    /// the sum of their least costs. The values break none of the clauses.
+    fn independent_set(&self, values: &[bool]) -> (Vec<u32>, u64) {
+        let (mut cited, mut sum) = (vec![], 0);
+        let mut taken_variables = BTreeSet::new();
+        for (codes, number) in self.clauses.iter().zip(1..) {
+            let (settled, unsettled): (Vec<u16>, Vec<u16>) = codes
+                .iter()
+                .partition(|code| **code as usize / 2 <= values.len());
+            let is_true = |code: &u16| values[*code as usize / 2 - 1] == code.is_multiple_of(2);
+            let is_free =
+                |code: &u16| code.is_multiple_of(2) && !taken_variables.contains(&(code / 2));
+            if !settled.iter().any(is_true) && unsettled.iter().all(is_free) {
+                let costs = unsettled
+                    .iter()
+                    .map(|code| self.costs[*code as usize / 2 - 1]);
+                sum += u64::from(costs.min().expect("the clause is not broken"));
+                taken_variables.extend(unsettled.iter().map(|code| code / 2));
+                cited.push(number);
+            }
+        }
+        (cited, sum)
+    }
+
+    /// An independent set whose bound is enough.
+    fn independent_leaf(&mut self, values: &[bool]) -> Option<Derived> {
+        let (cited, sum) = self.independent_set(values);
+        let true_costs = self.costs.iter().zip(values).filter(|(_, value)| **value);
+        let bound = sum + true_costs.map(|(cost, _)| u64::from(*cost)).sum::<u64>();
+        if cited.is_empty() || bound < self.enough {
+            return None;
+        }
+        let falsified = |(value, variable): (&bool, u16)| match value {
+            true => neg(variable),
+            false => pos(variable),
+        };
+        let codes: Vec<u16> = values.iter().zip(1..).map(falsified).collect();
+        let body = independent_step(&codes, bound, &cited);
+        Some(self.push(body, codes.into_iter().collect(), bound))
+    }
+
+    /// A clause that the values break, an independent set, or the cost of all values.
     fn leaf(&mut self, values: &[bool]) -> Option<Derived> {
         if let Some(index) = self.first_broken(values) {
             let codes = self.clauses[index].clone();
             let body = clause_step(&codes, index as u32 + 1);
             return Some(self.push(body, codes.into_iter().collect(), NONE));
+        }
+        if let Some(leaf) = self.independent_leaf(values) {
+            return Some(leaf);
         }
         if values.len() < self.costs.len() {
             return None;
@@ -134,18 +190,20 @@ fn record_of(derivation: &Derivation, values: &[bool]) -> (u64, Vec<u8>) {
 }
 
 /// How many of the records judged were for the least cost, for a greater one, for an assignment that breaks a
-/// clause, and for "none".
+/// clause, and for "none"; and how many steps of kind 3 there were.
 #[derive(Default)]
 struct Seen {
     least: u32,
     dearer: u32,
     breaking: u32,
     none: u32,
+    independent: usize,
 }
 
 fn judge_every_claim(derivation: &Derivation, bound: u64, seen: &mut Seen) {
     let sheet = derivation.sheet();
     let t = derivation.steps.len() as u64;
+    seen.independent += derivation.steps.iter().filter(|body| body[0] == 3).count();
     let none = judge(&sheet, &record(NONE, &[0], &derivation.steps));
     if bound == NONE {
         assert_eq!(none, accepted(NONE, 0, t));
@@ -175,20 +233,23 @@ fn an_assignment_is_accepted_exactly_when_it_is_the_least() {
     let mut numbers = Numbers::from(1);
     let mut seen = Seen::default();
     for _ in 0..300 {
-        let mut derivation = Derivation::random(&mut numbers);
-        let close = derivation.derive(&mut vec![]);
-        assert_eq!(close.codes, BTreeSet::new());
-        let least = least_cost(&derivation.sheet());
-        assert_eq!(close.bound, least.unwrap_or(NONE));
-        judge_every_claim(&derivation, close.bound, &mut seen);
+        let plain = Derivation::random(&mut numbers);
+        let least = least_cost(&plain.sheet());
+        for mut derivation in [plain.with_independent_sets(), plain] {
+            let close = derivation.derive(&mut vec![]);
+            assert_eq!(close.codes, BTreeSet::new());
+            assert_eq!(close.bound, least.unwrap_or(NONE));
+            judge_every_claim(&derivation, close.bound, &mut seen);
+        }
     }
-    assert!(seen.least > 200 && seen.dearer > 200);
-    assert!(seen.breaking > 200 && seen.none > 20);
+    assert!(seen.least > 400 && seen.dearer > 400);
+    assert!(seen.breaking > 400 && seen.none > 40);
+    assert!(seen.independent > 200);
 }
 
 /// A sheet and a record of it that is accepted.
 fn accepted_files(numbers: &mut Numbers) -> (Vec<u8>, Vec<u8>) {
-    let mut derivation = Derivation::random(numbers);
+    let mut derivation = Derivation::random(numbers).with_independent_sets();
     derivation.derive(&mut vec![]);
     let sheet = derivation.sheet();
     let mut records = vec![record(NONE, &[0], &derivation.steps)];
@@ -231,8 +292,8 @@ fn damaged_files_are_refused_or_what_they_say_is_still_true() {
         }
     }
     assert!(damaged_and_accepted > 100);
-    // All that bytes can meet but 15 and 19, which take more than two of them: a kind 3 step here has to be made
-    // from a step of kind 1, and a dearer assignment has to come with its cost.
-    let expected: BTreeSet<u32> = (2..=18).filter(|number| *number != 15).collect();
+    // All that bytes can meet but 19, which takes two that fit each other, such as a dearer assignment and its
+    // cost: no two here do.
+    let expected: BTreeSet<u32> = (2..=22).filter(|number| *number != 19).collect();
     assert_eq!(refusals, expected);
 }

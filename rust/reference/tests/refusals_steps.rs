@@ -371,7 +371,7 @@ fn the_first_faulty_step_is_told_whatever_follows() {
     let first_fault = cost_step(&[neg(1)], 4);
     let steps = [first_fault, vec![], step(9, &[], 0, &[])];
     assert_eq!(judge_steps(&steps), refused(13, 1));
-    // Refusals 8 to 18 run step by step: a greater number at an earlier step comes first.
+    // The refusals of a step run step by step: a greater number at an earlier step comes first.
     let wrong_citation = clause_step(&[], 9);
     assert_eq!(judge_steps(&[wrong_citation, vec![]]), refused(9, 1));
     // A step in order before it changes the place alone.

@@ -169,6 +169,28 @@ pub fn steps_a() -> Vec<Vec<u8>> {
     ]
 }
 
+/// The clauses of case C, document 001's example 2.
+pub const CLAUSES_C: [&[u16]; 3] = [
+    &[pos(1), pos(3), pos(5)],
+    &[pos(2), pos(4), pos(5), neg(6)],
+    &[neg(1), neg(2)],
+];
+
+/// Its costs are 1 to 6.
+pub fn sheet_c() -> Vec<u8> {
+    sheet(&[1, 2, 3, 4, 5, 6], &CLAUSES_C)
+}
+
+/// Variable 1 alone true, at cost 1, and one step.
+pub fn record_c(only_step: Vec<u8>) -> Vec<u8> {
+    record(1, &[0x01], &[only_step])
+}
+
+/// Case C1: the step is in order and does not close.
+pub fn record_c1() -> Vec<u8> {
+    record_c(independent_step(&[pos(5), neg(6)], 9, &[1, 2]))
+}
+
 /// The clauses of case D, document 001's section 3.2.
 pub const CLAUSES_D: [&[u16]; 8] = [
     &[pos(2), pos(4)],
