@@ -5,10 +5,10 @@ use reference::{judge, show, Answer};
 use samples::Sample;
 use std::fmt::Write;
 
-/// The refusal numbers that small files can meet; 1 needs a file of 4 GB.
-pub const NUMBERS: [u32; 19] = [
-    0, 2, 3, 4, 5, 6, 7, 8, 9, 10, 11, 12, 13, 14, 15, 16, 17, 18, 19,
-];
+/// The numbers that small files can meet: 1 needs a file of 4 GB.
+pub fn numbers() -> impl Iterator<Item = u32> {
+    (0..samples::NUMBERS as u32).filter(|number| *number != 1)
+}
 
 /// Longer files would spend the prover's time and show nothing more.
 const SHEET_BYTES: usize = 96;
@@ -26,7 +26,7 @@ pub struct Case {
 
 /// The first small samples of the stream, as many of each number, `count` in all or fewer where a number is rare.
 pub fn choose(seed: u64, count: usize) -> Vec<Case> {
-    let share = count.div_ceil(NUMBERS.len());
+    let share = count.div_ceil(numbers().count());
     let mut met = [0usize; samples::NUMBERS];
     let mut cases = Vec::new();
     for sample in samples::stream(seed).take(TRIES) {
@@ -56,10 +56,10 @@ fn small(sample: Sample) -> Option<Case> {
     })
 }
 
-/// How many cases ended in each number, in the order of `NUMBERS`.
+/// How many cases ended in each of the `numbers`.
 pub fn tally(cases: &[Case]) -> Vec<(u32, usize)> {
     let of = |n: u32| cases.iter().filter(|c| c.answer.number == n).count();
-    NUMBERS.iter().map(|&n| (n, of(n))).collect()
+    numbers().map(|n| (n, of(n))).collect()
 }
 
 /// The module of theorems.

@@ -129,7 +129,8 @@ fn on_longer_records_with_one_byte_changed() {
         }
     }
     println!("{CHANGES} changes of each record, by number {met:?}");
-    for number in [7, 8, 9, 12, 13, 14, 15, 16, 17, 18] {
+    // One bit seldom takes a clause's last unsettled variable or frees one that two share: 21 and 22 are met once each.
+    for number in [7, 8, 9, 12, 13, 14, 15, 16, 17, 18, 20, 21, 22] {
         assert!(met[number] > 0, "no change met {number}");
     }
 }

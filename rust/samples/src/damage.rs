@@ -6,6 +6,7 @@ mod blind;
 mod forms;
 mod heads;
 mod independence;
+mod order;
 mod pairs;
 mod plans;
 mod resolutions;
@@ -13,6 +14,7 @@ mod statements;
 
 use crate::draft::{code_bytes, codes, Body, Draft, Files, Table};
 use crate::random::Random;
+use order::{Bound, Clauses};
 
 /// How a fault is made; nothing comes back when it does not apply to these files.
 #[derive(Clone, Copy)]
@@ -27,6 +29,8 @@ pub enum Way {
     SheetPairs(fn(&mut Vec<u8>, Table, &mut Random) -> Option<()>),
     RecordPairs(fn(&mut Vec<u8>, Table, &mut Random) -> Option<()>),
     Files(fn(&mut Files, &mut Random) -> Option<()>),
+    /// Has a step of kind 3 cite clauses made for it.
+    Cite(Clauses, Bound),
 }
 
 #[derive(Clone, Copy)]
@@ -39,26 +43,38 @@ const fn damage(aimed: &'static str, way: Way) -> Damage {
     Damage { aimed, way }
 }
 
+impl Damage {
+    /// The number that the fault is aimed at; a blind one is aimed at none.
+    pub fn number(&self) -> Option<u32> {
+        self.aimed.split(' ').next()?.parse().ok()
+    }
+}
+
 /// Every fault with an aim, in groups.
-pub const AIMED: [&[Damage]; 7] = [
+pub const AIMED: [&[Damage]; 8] = [
     heads::HEADS,
     pairs::PAIRS,
     forms::FORMS,
     plans::PLANS,
     statements::STATEMENTS,
     independence::INDEPENDENCE,
+    order::ORDER,
     resolutions::RESOLUTIONS,
 ];
+
+/// The same, one by one.
+pub fn all_aimed() -> impl Iterator<Item = &'static Damage> {
+    AIMED.into_iter().flatten()
+}
 
 /// Changes made without looking.
 pub const BLIND: &[Damage] = blind::BLIND;
 
 /// One fault of those with an aim, each as likely as the other.
 pub fn aimed(random: &mut Random) -> Damage {
-    let count = AIMED.iter().map(|group| group.len()).sum();
-    let place = random.below(count);
-    let mut all = AIMED.iter().flat_map(|group| group.iter());
-    *all.nth(place).expect("the place is below the count")
+    let place = random.below(all_aimed().count());
+    let fault = all_aimed().nth(place);
+    *fault.expect("the place is below the count")
 }
 
 pub fn blind(random: &mut Random) -> Damage {
@@ -107,24 +123,27 @@ fn to_draft(way: Way, draft: &mut Draft, random: &mut Random) -> Option<()> {
             draft.steps[place] = body.bytes();
             Some(())
         }
+        Way::Cite(clauses, bound) => order::cite(clauses, bound, draft, random),
         Way::SheetPairs(_) | Way::RecordPairs(_) | Way::Files(_) => None,
     }
 }
 
-/// Tries the steps of the kind from a random one on, because many faults need some feature.
+/// The places of the steps of a kind, from a random one on: many faults need some feature, and try one after the other.
+fn places(kind: u8, draft: &Draft, random: &mut Random) -> Vec<usize> {
+    let count = draft.steps.len();
+    let first = random.below(count.max(1));
+    let all = (0..count).map(|turn| (first + turn) % count);
+    all.filter(|place| draft.steps[*place].first() == Some(&kind))
+        .collect()
+}
+
 fn to_step(
     kind: u8,
     change: fn(&Draft, u32, &mut Body, &mut Random) -> Option<()>,
     draft: &mut Draft,
     random: &mut Random,
 ) -> Option<()> {
-    let count = draft.steps.len();
-    let first = random.below(count.max(1));
-    for turn in 0..count {
-        let place = (first + turn) % count;
-        if draft.steps[place].first() != Some(&kind) {
-            continue;
-        }
+    for place in places(kind, draft, random) {
         let Some(mut body) = Body::read(&draft.steps[place]) else {
             continue;
         };

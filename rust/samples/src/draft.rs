@@ -175,11 +175,18 @@ impl Draft {
             .sum()
     }
 
+    /// The assignment makes a literal true.
+    pub fn is_true(&self, code: u16) -> bool {
+        code > 1 && self.value(usize::from(code / 2)) == code.is_multiple_of(2)
+    }
+
+    pub fn satisfies(&self, clause: &[u16]) -> bool {
+        clause.iter().any(|code| self.is_true(*code))
+    }
+
     pub fn satisfied(&self) -> bool {
-        self.clauses.iter().all(|clause| {
-            let mut literals = codes(clause).into_iter();
-            literals.any(|code| code > 1 && self.value(usize::from(code / 2)) == (code % 2 == 0))
-        })
+        let mut clauses = self.clauses.iter();
+        clauses.all(|clause| self.satisfies(&codes(clause)))
     }
 
     /// Puts a step before the one at this place and moves the citations behind it along.

@@ -15,7 +15,7 @@ use planner::{format, long, search, tree, Plan, Problem};
 use random::Random;
 
 /// How many numbers an answer may have: 0 and those of the refusals.
-pub const NUMBERS: usize = 20;
+pub const NUMBERS: usize = 23;
 
 #[derive(Clone, Debug, PartialEq, Eq)]
 pub struct Sample {

@@ -1,12 +1,13 @@
 //! A single fault is told at the place where it was made.
 
-use planner::padding::Mix;
-use planner::{long, search};
+mod common;
+
+use common::{first_difference, some_draft};
 use reference::Answer;
 use samples::damage::{self, Damage, Way};
 use samples::draft::{codes, read_u32, Draft, Files, Table};
 use samples::random::Random;
-use samples::sheets;
+use std::collections::BTreeSet;
 
 /// The pair that misses its offset, else the last one if the end of the file is missed.
 fn pair_at_fault(file: &[u8], table: Table) -> u64 {
@@ -23,24 +24,15 @@ fn pair_at_fault(file: &[u8], table: Table) -> u64 {
     table.count as u64
 }
 
-fn first_difference(before: &[Vec<u8>], after: &[Vec<u8>]) -> u64 {
-    let mut both = before.iter().zip(after);
-    both.position(|(this, that)| this != that)
-        .expect("one body differs") as u64
-        + 1
+fn first_broken(draft: &Draft) -> u64 {
+    let mut clauses = draft.clauses.iter();
+    let broken = clauses.position(|clause| !draft.satisfies(&codes(clause)));
+    broken.unwrap() as u64 + 1
 }
 
-fn first_broken(draft: &Draft) -> u64 {
-    let satisfied = |clause: &Vec<u8>| {
-        let mut literals = codes(clause).into_iter();
-        literals.any(|code| draft.value(usize::from(code / 2)) == (code % 2 == 0))
-    };
-    draft
-        .clauses
-        .iter()
-        .position(|clause| !satisfied(clause))
-        .unwrap() as u64
-        + 1
+/// The numbers of a cited clause's faults. They are made in a step that was good, so that nothing is told before them.
+fn is_of_a_cited_clause(number: u32) -> bool {
+    matches!(number, 14 | 20..=22)
 }
 
 /// The place that the papers give to a fault of this number; nothing where a fault has no one place.
@@ -51,6 +43,7 @@ fn expected(
     after: &Draft,
     files: &Files,
 ) -> Option<u64> {
+    let changed_step = || Some(first_difference(&before.steps, &after.steps));
     match (number, fault.way) {
         (0 | 2 | 5 | 6 | 11, _) => Some(0),
         (3, _) => Some(pair_at_fault(&files.sheet, files.sheet_table()?)),
@@ -58,9 +51,8 @@ fn expected(
         (4, Way::ClauseList(_)) => Some(first_difference(&before.clauses, &after.clauses)),
         (10, _) => Some(first_broken(after)),
         (19, _) => Some(after.steps.len() as u64),
-        (_, Way::Step(..) | Way::Bytes(_) | Way::StepList(_)) => {
-            Some(first_difference(&before.steps, &after.steps))
-        }
+        (_, Way::Step(..) | Way::Bytes(_) | Way::StepList(_)) => changed_step(),
+        _ if is_of_a_cited_clause(number) => changed_step(),
         _ => None,
     }
 }
@@ -76,8 +68,13 @@ fn changed(fault: Damage, draft: &Draft, random: &mut Random) -> Option<(Draft, 
 fn compare(fault: Damage, draft: &Draft, random: &mut Random) -> Option<u64> {
     let (after, files) = changed(fault, draft, random)?;
     let answer: Answer = reference::judge(&files.sheet, &files.record);
-    let aimed: u32 = fault.aimed.split(' ').next()?.parse().ok()?;
+    let aimed = fault.number()?;
     if answer.number != aimed {
+        assert!(
+            !is_of_a_cited_clause(aimed),
+            "{}: {answer:?} {files:?}",
+            fault.aimed
+        );
         return None;
     }
     let place = expected(aimed, &fault, draft, &after, &files)?;
@@ -88,17 +85,20 @@ fn compare(fault: Damage, draft: &Draft, random: &mut Random) -> Option<u64> {
 #[test]
 fn faults_are_told_where_they_were_made() {
     let mut random = Random::new(11);
-    let mut compared = 0;
+    let (mut compared, mut met) = (0, BTreeSet::new());
     for _ in 0..150 {
-        let problem = sheets::small(&mut random);
-        let plan = search::plan(&problem);
-        let size = plan.record().len() + 600;
-        let record = long::record(&problem, &plan, random.next_u64(), size, Mix::Mixed);
-        let draft = Draft::new(&problem, &record).unwrap();
-        for fault in damage::AIMED.iter().flat_map(|group| group.iter()) {
-            compared += u32::from(compare(*fault, &draft, &mut random).is_some());
+        let draft = some_draft(&mut random);
+        for fault in damage::all_aimed() {
+            if compare(*fault, &draft, &mut random).is_some() {
+                compared += 1;
+                met.insert(fault.aimed);
+            }
         }
     }
     println!("{compared} places compared");
     assert!(compared > 10_000);
+    let of_clauses = |fault: &&Damage| fault.number().is_some_and(is_of_a_cited_clause);
+    for Damage { aimed, .. } in damage::all_aimed().filter(of_clauses) {
+        assert!(met.contains(aimed), "never met: {aimed}");
+    }
 }

@@ -1,5 +1,6 @@
 //! Changes made without looking at what the bytes mean.
 
+use super::independence::one_more;
 use super::statements::{literal_extra, literal_missing};
 use super::{damage, Damage, Way};
 use crate::draft::{Draft, Files};
@@ -56,6 +57,7 @@ pub const BLIND: &[Damage] = &[
     ),
     damage("blind cost literal", Way::Step(2, literal_extra)),
     damage("blind cost literal left out", Way::Step(2, literal_missing)),
+    damage("blind clause cited", Way::Step(3, one_more)),
     damage("blind bodies exchanged", Way::Draft(exchanged)),
     damage("blind body left out", Way::Draft(left_out)),
     damage("blind body repeated", Way::Draft(repeated)),

@@ -1,30 +1,29 @@
 //! Independent sets: each condition broken by itself, and bounds added up in wrong ways.
 
 use super::statements::{bound_off_by_one, set_bound};
-use super::{damage, Damage, Way};
-use crate::draft::{Body, Draft};
+use super::{damage, places, Damage, Way};
+use crate::draft::{code_bytes, Body, Draft};
 use crate::random::Random;
 use planner::NONE;
 
 pub const INDEPENDENCE: &[Damage] = &[
     damage("14 true literal", Way::Step(3, true_literal)),
     damage("14 settled literal negated", Way::Step(3, settled_negated)),
-    damage("14 nothing unsettled", Way::Step(3, nothing_unsettled)),
     damage(
-        "14 unsettled negative literal",
+        "20 unsettled negative literal",
         Way::Step(3, unsettled_negative),
     ),
+    damage("21 nothing unsettled", Way::Step(3, nothing_unsettled)),
+    damage("21 empty clause", Way::Draft(empty_clause)),
     damage(
-        "14 shared variable unsettled",
+        "22 shared variable unsettled",
         Way::Step(3, shared_unsettled),
     ),
     damage(
-        "14 clause that shares a variable",
+        "22 clause that shares a variable",
         Way::Step(3, sharing_clause),
     ),
-    damage("14 same clause under two numbers", Way::Draft(same_clause)),
-    damage("14 empty clause", Way::Draft(empty_clause)),
-    damage("14 one clause more", Way::Step(3, one_more)),
+    damage("22 same clause under two numbers", Way::Draft(same_clause)),
     damage("15 bound off by one", Way::Step(3, bound_off_by_one)),
     damage(
         "15 bound none",
@@ -57,7 +56,7 @@ fn some_clause(draft: &Draft, body: &Body, random: &mut Random) -> Option<Vec<u1
     draft.clause(*random.pick(&body.cited())?)
 }
 
-fn unsettled(body: &Body, clause: &[u16]) -> Vec<u16> {
+pub fn unsettled(body: &Body, clause: &[u16]) -> Vec<u16> {
     clause
         .iter()
         .copied()
@@ -142,42 +141,40 @@ fn recite(body: &mut Body, mut cited: Vec<u32>) {
     body.tail = cited.into_iter().flat_map(u32::to_le_bytes).collect();
 }
 
-/// The place of some step of kind 3.
-fn some_step(draft: &Draft, random: &mut Random) -> Option<usize> {
-    let places = 0..draft.steps.len();
-    let found: Vec<usize> = places
-        .filter(|place| draft.steps[*place].first() == Some(&3))
-        .collect();
-    random.pick(&found).copied()
+/// Some step of kind 3, and its place.
+fn some_step(draft: &Draft, random: &mut Random) -> Option<(usize, Body)> {
+    let place = *places(3, draft, random).first()?;
+    Some((place, Body::read(&draft.steps[place])?))
 }
 
 /// Puts a clause at the end of the sheet and has a step of kind 3 cite it too.
-fn cite_new(draft: &mut Draft, place: usize, clause: Vec<u8>) -> Option<()> {
-    draft.clauses.push(clause);
-    let mut body = Body::read(&draft.steps[place])?;
-    body.tail
-        .extend_from_slice(&(draft.clauses.len() as u32).to_le_bytes());
+pub fn cite_new(draft: &mut Draft, body: &mut Body, clause: &[u16]) {
+    draft.clauses.push(code_bytes(clause));
+    let number = draft.clauses.len() as u32;
+    body.tail.extend_from_slice(&number.to_le_bytes());
+}
+
+fn same_clause(draft: &mut Draft, random: &mut Random) -> Option<()> {
+    let (place, mut body) = some_step(draft, random)?;
+    let clause = some_clause(draft, &body, random)?;
+    cite_new(draft, &mut body, &clause);
     draft.steps[place] = body.bytes();
     Some(())
 }
 
-fn same_clause(draft: &mut Draft, random: &mut Random) -> Option<()> {
-    let place = some_step(draft, random)?;
-    let body = Body::read(&draft.steps[place])?;
-    let clause = some_clause(draft, &body, random)?;
-    cite_new(draft, place, crate::draft::code_bytes(&clause))
-}
-
 /// Only under the claim "none", which no clause can break.
 fn empty_clause(draft: &mut Draft, random: &mut Random) -> Option<()> {
-    let place = some_step(draft, random)?;
+    let (place, mut body) = some_step(draft, random)?;
     if draft.claim != NONE {
         return None;
     }
-    cite_new(draft, place, Vec::new())
+    cite_new(draft, &mut body, &[]);
+    draft.steps[place] = body.bytes();
+    Some(())
 }
 
-fn one_more(draft: &Draft, _: u32, body: &mut Body, random: &mut Random) -> Option<()> {
+/// Cites any clause more: it may have one of the four faults, or none but that the bound is wrong.
+pub fn one_more(draft: &Draft, _: u32, body: &mut Body, random: &mut Random) -> Option<()> {
     let mut cited = body.cited();
     let number = random.between(1, draft.clauses.len().max(1)) as u32;
     if cited.contains(&number) {
@@ -198,6 +195,11 @@ fn bound(draft: &Draft, body: &Body, share: fn(&[u64], &[u64]) -> u64) -> Option
         total += share(&all, &left);
     }
     Some(total)
+}
+
+/// The bound of a step whose cited clauses are independent.
+pub fn right_bound(draft: &Draft, body: &Body) -> Option<u64> {
+    bound(draft, body, |_, left| least(left))
 }
 
 fn settled_cost(draft: &Draft, body: &Body) -> u64 {
@@ -227,7 +229,7 @@ fn all_unsettled(draft: &Draft, _: u32, body: &mut Body, _: &mut Random) -> Opti
 }
 
 fn without_settled(draft: &Draft, _: u32, body: &mut Body, _: &mut Random) -> Option<()> {
-    let bound = bound(draft, body, |_, left| least(left))? - settled_cost(draft, body);
+    let bound = right_bound(draft, body)? - settled_cost(draft, body);
     set_bound(body, bound)
 }
 
