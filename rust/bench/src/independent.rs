@@ -1,5 +1,5 @@
-//! Kind 3: refusals 8, 9, 14 and 15. The four conditions on a clause are one refusal at one place, so that one look at each
-//! literal settles them, and gives the least cost as well.
+//! Kind 3: refusals 8, 9, 14, 15 and 20 to 22. One look at each literal of a clause settles whether its four conditions hold,
+//! and gives the least cost as well. Which of them fails is asked only of a clause that fails.
 
 use crate::read::{code, number, rises, Codes, CODES};
 use crate::refusal;
@@ -66,12 +66,30 @@ pub(crate) fn check(
         let clause = sheet.clause(number(stored));
         sum += stamps
             .least(sheet, clause, settled.into())
-            .ok_or(refusal::DEPENDENCE)?;
+            .ok_or_else(|| first_fault(claim.literals, clause))?;
     }
     if claim.bound != sum {
         return Err(refusal::INDEPENDENT_BOUND);
     }
     Ok(())
+}
+
+/// The first fault of a clause that fails. Its own marks now look like those of the clauses before it, so that the step's list
+/// is asked; sharing is what is left where nothing else is wrong.
+#[cold]
+fn first_fault(settled: Codes, clause: Codes) -> u64 {
+    let is_false = |stored: &[u8; 2]| settled.contains(stored);
+    let is_true = |&[low, high]: &[u8; 2]| settled.contains(&[low ^ 1, high]);
+    let is_negative = |stored: &[u8; 2]| code(*stored) % 2 == 1;
+    if clause.iter().any(is_true) {
+        refusal::DEPENDENCE
+    } else if clause.iter().any(|it| is_negative(it) && !is_false(it)) {
+        refusal::UNSETTLED_SHUT
+    } else if clause.iter().all(is_false) {
+        refusal::ALL_SETTLED
+    } else {
+        refusal::SHARED_PADDLE
+    }
 }
 
 /// The numbers rise from 1 to m at most.

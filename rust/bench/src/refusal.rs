@@ -19,3 +19,6 @@ pub(crate) const PIVOT: u64 = 16;
 pub(crate) const RESOLVENT: u64 = 17;
 pub(crate) const LESSER_BOUND: u64 = 18;
 pub(crate) const CLOSE: u64 = 19;
+pub(crate) const UNSETTLED_SHUT: u64 = 20;
+pub(crate) const ALL_SETTLED: u64 = 21;
+pub(crate) const SHARED_PADDLE: u64 = 22;

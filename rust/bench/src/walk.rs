@@ -1,4 +1,4 @@
-//! The steps: refusals 7, 8, 9 and 12 to 18, in one pass over the pairs.
+//! The steps: refusals 7, 8, 9, 12 to 18 and 20 to 22, in one pass over the pairs.
 
 use crate::copy;
 use crate::independent::{self, Stamps};
