@@ -1,5 +1,6 @@
 //! An answer with the place that it names: the proved checker's line, a sentence, and what stands there.
 
+use crate::dependence;
 use crate::places::{cited_lines, clause_line, cost, pair_line, step_line};
 use crate::record::{Record, ASSIGNMENT};
 use crate::refusals::sentence;
@@ -102,7 +103,8 @@ fn in_claim_or_step(sheet: &Sheet, record: &Record, answer: &Answer) -> Vec<Stri
             if number == 19 {
                 lines.push(claim);
             }
-            lines.extend(cited_lines(sheet, record, place));
+            let cited = dependence::lines(sheet, record, answer);
+            lines.extend(cited.unwrap_or_else(|| cited_lines(sheet, record, place)));
             lines
         }
     }

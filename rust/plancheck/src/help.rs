@@ -27,7 +27,8 @@ pub const EXPLAIN: &str = "\
 plancheck explain SHEET RECORD
 
 Prints the proved checker's line, what it says in plain words, and the place that it names: the clause or the step as text,
-and the clauses, costs or steps that it cites. Exit codes as with judge.
+and the clauses, costs or steps that it cites. Where an independent set is none, the clause at fault comes first, with what would
+mend the step. Exit codes as with judge.
 ";
 
 pub const STATS: &str = "\

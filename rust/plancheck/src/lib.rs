@@ -6,6 +6,7 @@
 pub mod args;
 pub mod bodies;
 pub mod commands;
+pub mod dependence;
 pub mod explain;
 pub mod failure;
 pub mod files;

@@ -68,23 +68,26 @@ pub fn cited_lines(sheet: &Sheet, record: &Record, number: usize) -> Vec<String>
     match &step.reason {
         Reason::Copy { clause } => vec![clause_line(sheet, *clause as usize)],
         Reason::Cost => cost_lines(sheet, &step),
-        Reason::Independent { clauses } => {
-            let mut lines = cost_lines(sheet, &step);
-            for clause in clauses.iter().take(MOST) {
-                lines.push(clause_line(sheet, *clause as usize));
-                lines.extend(clause_costs(sheet, *clause as usize));
-            }
-            if clauses.len() > MOST {
-                lines.push(format!("and {} clauses more", clauses.len() - MOST));
-            }
-            lines
-        }
+        Reason::Independent { clauses } => added_lines(sheet, &step, clauses),
         Reason::Resolution {
             positive, negative, ..
         } => [*positive, *negative]
             .map(|cited| step_line(record, cited as usize))
             .to_vec(),
     }
+}
+
+/// What an independent set adds up: the costs made true, and these of the clauses that it cites.
+pub fn added_lines(sheet: &Sheet, step: &Step, clauses: &[u32]) -> Vec<String> {
+    let mut lines = cost_lines(sheet, step);
+    for clause in clauses.iter().take(MOST) {
+        lines.push(clause_line(sheet, *clause as usize));
+        lines.extend(clause_costs(sheet, *clause as usize));
+    }
+    if clauses.len() > MOST {
+        lines.push(format!("and {} clauses more", clauses.len() - MOST));
+    }
+    lines
 }
 
 /// What the variables cost that making the step's literals false makes true.
@@ -97,10 +100,11 @@ fn cost_lines(sheet: &Sheet, step: &Step) -> Vec<String> {
     vec![format!("costs made true: {}", costs.join(", "))]
 }
 
-fn clause_costs(sheet: &Sheet, number: usize) -> Option<String> {
+/// Nothing for a clause without literals.
+pub fn clause_costs(sheet: &Sheet, number: usize) -> Option<String> {
     let literals = sheet.clause(number)?;
     let costs: Vec<_> = literals.iter().map(|l| cost(sheet, l.variable())).collect();
-    Some(format!("  costs there: {}", costs.join(", ")))
+    (!costs.is_empty()).then(|| format!("  costs there: {}", costs.join(", ")))
 }
 
 /// `variable 3 costs 7`

@@ -15,7 +15,7 @@ pub enum Place {
 pub fn place_of(number: u64) -> Place {
     match number {
         3 | 4 | 10 => Place::Clause,
-        7..=9 | 12..=19 => Place::Step,
+        7..=9 | 12..=22 => Place::Step,
         _ => Place::File,
     }
 }
@@ -31,8 +31,8 @@ pub fn sentence(answer: &Answer) -> String {
         ),
         (1..=7, _) => about_layout(answer.number, place),
         (8..=11, _) => about_claim(answer.number, place),
-        (12..=19, _) => about_step(answer.number, place),
-        (number, _) => format!("The number {number} is not one of the 19 refusals."),
+        (12..=22, _) => about_step(answer.number, place),
+        (number, _) => format!("{number} is not the number of a refusal."),
     }
 }
 
@@ -62,7 +62,10 @@ fn about_step(number: u64, place: u64) -> String {
     match number {
         12 => format!("Copy: step {place} says that it copies a clause, but has other literals than the clause, or a bound that is not none."),
         13 => format!("Cost bound: the bound of step {place} is not the sum of the costs of its negative literals' variables."),
-        14 => format!("Dependence: the clauses that step {place} cites are not independent once its literals are made false."),
+        14 => format!("Dependence: step {place} cites a clause that has a true literal once the step's literals are made false, so that it adds no cost."),
+        20 => format!("Unsettled shut: step {place} cites a clause with a negative literal of an unsettled variable, which can be made true at no cost."),
+        21 => format!("All settled: step {place} cites a clause that has no unsettled variable, so that there is no least cost to add."),
+        22 => format!("Shared paddle: step {place} cites a clause with an unsettled variable that a clause cited before it has too, so that one cost can do for both."),
         15 => format!("Independent bound: the bound of step {place} is not the settled costs plus the least cost of each cited clause."),
         16 => format!("Pivot: the first step that step {place} cites lacks the pivot as a positive literal, or the second lacks it as a negative one."),
         17 => format!("Resolvent: the literals of step {place} are not those that are left of the two cited steps, or a variable stands there both ways."),

@@ -6,7 +6,7 @@ use common::{code, complained, printed, Folder};
 use plancheck::explain::explain;
 use plancheck::refusals::{place_of, sentence, Place};
 use samples::examples::{example, examples, Example};
-use samples::stream;
+use samples::{stream, NUMBERS};
 use std::collections::{BTreeMap, BTreeSet};
 
 #[test]
@@ -40,25 +40,33 @@ fn explanations_name_the_place() {
         assert!(lines[2].starts_with(&start), "{lines:?}");
         *met.entry(answer.number).or_default() += 1;
     }
-    for number in (0..=19).filter(|number| *number != 1) {
+    for number in (0..NUMBERS as u64).filter(|number| *number != 1) {
         assert!(met.contains_key(&number), "{number} was not met: {met:?}");
     }
 }
 
+fn sentence_at_7(number: usize) -> String {
+    let mut answer = proved::judge(&[], &[]);
+    answer.number = number as u64;
+    answer.place = 7;
+    sentence(&answer)
+}
+
 #[test]
 fn each_refusal_has_a_sentence_of_its_own() {
-    let sentences = (1..=19).map(|number| {
-        let mut answer = proved::judge(&[], &[]);
-        answer.number = number;
-        answer.place = 7;
-        let sentence = sentence(&answer);
+    let sentences = (1..NUMBERS).map(|number| {
+        let sentence = sentence_at_7(number);
         assert_eq!(
-            place_of(number) != Place::File,
+            place_of(number as u64) != Place::File,
             sentence.contains(" 7 ") || sentence.contains(" 7:")
         );
+        assert!(!sentence.contains("not the number"), "{sentence}");
         sentence
     });
-    assert_eq!(sentences.collect::<BTreeSet<_>>().len(), 19);
+    let sentences: BTreeSet<String> = sentences.collect();
+    assert_eq!(sentences.len(), NUMBERS - 1);
+    assert!(sentence_at_7(NUMBERS).contains("not the number of a refusal"));
+    assert_eq!(place_of(NUMBERS as u64), Place::File);
 }
 
 #[test]
