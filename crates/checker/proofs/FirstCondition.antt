@@ -1,12 +1,11 @@
 -- Which refusal applies to a clause C that is not independent, where the marks have what D settles and nothing else. i literals of C
 -- are done, and c, the code of literal i + 1, is next.
 -- Assumes nothing.
-use Prim.Native.Nat.{ℕ, _+_, _-_, _%_, _≤_, _<_}
+use Prim.Native.Nat.{ℕ, _+_, _-_, _%_}
 use mathlib.Core.Path.{_≡_, refl, sym, _∙_}
 use mathlib.Core.Bool.{Bool, true, false, not, _&&_, _||_}
 use mathlib.Core.List.{List}
 use mathlib.Core.Logic.{_⊎_, inl, inr}
-use native.Mathlib.Numerals.{add-one}
 use native.Mathlib.Omega.{arith}
 use lib.Dec.{eqb, leb}
 use borrow.Author.Tests.{eqb-true, le-leb, lt-leb}
@@ -15,18 +14,14 @@ use Rattle.judgement.specs.Finding.{need, isFine, _then_}
 use Rattle.judgement.specs.Scan.{allOf, anyOf}
 use Rattle.judgement.specs.Meaning.{variableOf, isPositive, opposite}
 use Rattle.judgement.specs.Literals.{count, code, holds, mentions}
-use Rattle.judgement.specs.Kinds.{settled, noneTrue, madeTrue, unsettledPositive, unsettledNegative, someUnsettled, allSettled, unshared, sharedUnsettled, dependsOn}
+use Rattle.judgement.specs.Kinds.{settled, noneTrue, trueFinding, unsettledPositive, negativeFinding, someUnsettled, settledFinding, unshared, sharedFinding, dependsOn}
 use Rattle.judgement.specs.Facts.{Among, LiteralList}
 use Rattle.judgement.proofs.Laws.Scan.{which, clash, or-e}
 use Rattle.judgement.proofs.Complete.Stored.{opposite-variable}
 use Rattle.checker.specs.Marks.{markAt, IndependentMarks}
 use Rattle.checker.specs.Independent.{TellsWhich}
-use Rattle.checker.proofs.Marking.{any-next, not-opposite}
+use Rattle.checker.proofs.Marking.{all-next, any-next, not-opposite}
 use Rattle.checker.proofs.Conditions.{settled-by, depends-when}
-
-all-next : (f : ℕ → Bool) (i : ℕ) → allOf f (i + 1) ≡ allOf f i && f (i + 1)
-unfolding allOf
-all-next f i = rw add-one
 
 -- ---- what x, the mark of the variable of c, tells
 
@@ -89,7 +84,7 @@ asked-more {D} {C} {i = i} {c = c} so-far l m c-is w x-is =
 -- all are asked: the first test that fails tells the refusal, and where none does, what is left is that a variable is shared
 pub asked-told : {D C : List ℕ} {none-true positive some : Bool} {i : ℕ} (k : ℕ) → Asked D C none-true positive some i → i ≡ count C
     → LiteralList 1024 D → TellsWhich D C k (need none-true 14 k then need positive 20 k then need some 21 k then Fault 22 k)
-unfolding dependsOn madeTrue unsettledNegative allSettled sharedUnsettled noneTrue unsettledPositive someUnsettled
+unfolding dependsOn trueFinding negativeFinding settledFinding sharedFinding noneTrue unsettledPositive someUnsettled
 asked-told {D} {C} k all end l s b j dependent =
     rw (all .true-told, all .positive-told, all .some-told, end)
     (go

@@ -1,14 +1,18 @@
 -- What each refusal is told of: the last column of document 01's table of refusals, which document 02 goes on with. It is some
--- clause, or some step; which one is said by the tests (Order.antt).
+-- clause, or some step; which one is said by the tests (Order.antt). And what 14, 20, 21 and 22 say of the clauses that a step cites.
 -- Assumes nothing.
-use Prim.Native.Nat.{ℕ, _≤_}
+use Prim.Native.Nat.{ℕ, _≤_, _<_}
 use mathlib.Core.Path.{_≡_}
+use mathlib.Core.Bool.{Bool, false, _||_}
 use mathlib.Core.List.{List, [], _∷_}
 use mathlib.Core.Logic.{_⊎_}
 use lib.ListN.{getD}
+use lib.Dec.{eqb}
+use Rattle.judgement.specs.Meaning.{variableOf, isPositive, opposite}
 use Rattle.judgement.specs.Sheet.{clauses}
 use Rattle.judgement.specs.Record.{steps}
-use Rattle.judgement.specs.Facts.{Among}
+use Rattle.judgement.specs.Step.{literals, citedCount}
+use Rattle.judgement.specs.Facts.{Among, In, Mentions, citedClause, OpenYet, PositiveYet, Free, Unsettled}
 
 -- what a refusal can be told of
 pub data Subject : Type 0 where
@@ -59,3 +63,38 @@ subjects =
 -- refusal `number` may be told at p; only a number of the table has a place (`numbered` in proofs/Order/Shape.antt)
 abbrev pub ToldAt : List ℕ → List ℕ → ℕ → ℕ → Type 0
 ToldAt s r number p = IsPlaceOf (getD subjects number nothing) s r p
+
+-- ---- refusals 14, 20, 21 and 22, said as facts of C, the j-th clause that b cites, where D is falsified
+
+-- a variable of C that stands in a clause cited before is settled
+abbrev pub DisjointBefore : List ℕ → List ℕ → ℕ → List ℕ → List ℕ → Type 0
+DisjointBefore s b j D C =
+    (h : ℕ) → 1 ≤ h → h < j → (v : ℕ) → Mentions (citedClause s b h) v → Mentions C v → Mentions D v
+
+-- none of them applies
+abbrev pub Fits : List ℕ → List ℕ → ℕ → List ℕ → List ℕ → Type 0
+Fits s b j D C = OpenYet D C × PositiveYet D C × Unsettled D C × DisjointBefore s b j D C
+
+-- `number` is the first of them that applies
+pub data Dependent (s b : List ℕ) (j : ℕ) (D C : List ℕ) (number : ℕ) : Type 0 where
+  -- a literal is made true
+  made-true : number ≡ 14 → (c : ℕ) → In C c → In D (opposite c) → Dependent s b j D C number
+  -- a literal that is not settled is negative
+  negative-yet : number ≡ 20 → OpenYet D C → (c : ℕ) → In C c → Free D (variableOf c) → isPositive c ≡ false
+      → Dependent s b j D C number
+  -- every variable is settled
+  all-settled : number ≡ 21 → OpenYet D C → ((v : ℕ) → Mentions C v → Mentions D v) → Dependent s b j D C number
+  -- a variable that is not settled stands in a clause cited before
+  shared-yet : number ≡ 22 → OpenYet D C → PositiveYet D C → (v h : ℕ) → Mentions C v → Free D v → 1 ≤ h → h < j
+      → Mentions (citedClause s b h) v → Dependent s b j D C number
+
+-- it is so of the first clause that b cites to which one of them applies
+abbrev pub FirstDependent : List ℕ → List ℕ → ℕ → Type 0
+FirstDependent s b number =
+    (j : ℕ) × Among (citedCount b) j
+    × ((h : ℕ) → 1 ≤ h → h < j → Fits s b h (literals b) (citedClause s b h))
+    × Dependent s b j (literals b) (citedClause s b j) number
+
+-- one of the four
+abbrev pub isOfClause : ℕ → Bool
+isOfClause number = eqb number 14 || eqb number 20 || eqb number 21 || eqb number 22

@@ -42,7 +42,7 @@ pub const NONE: u64 = u64::MAX;
 /// The judgement on a sheet and a record.
 #[derive(Clone, Copy, Debug, PartialEq, Eq)]
 pub struct Answer {
-    /// 0 for an acceptance, else the refusal's number, 1 to 22.
+    /// 0 for an acceptance, else the refusal's number.
     pub number: u32,
     /// The clause or step that the refusal names; 0 for an acceptance and where there is none to name.
     pub place: u64,

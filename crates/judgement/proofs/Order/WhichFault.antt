@@ -114,7 +114,7 @@ found-first (f ∷ list) N P (suc i, here, before) =
 
 -- ---- the judgement
 
-answer-fault : (s r : List ℕ) (f : Finding) (N P : ℕ) → N ≢ 0 → answerOf s r f .number ≡ N → answerOf s r f .place ≡ P → f ≡ Fault N P
+pub answer-fault : (s r : List ℕ) (f : Finding) (N P : ℕ) → N ≢ 0 → answerOf s r f .number ≡ N → answerOf s r f .place ≡ P → f ≡ Fault N P
 answer-fault s r Fine N P n a b = absurd (n (sym a))
 answer-fault s r (Fault number place) N P n a b = rw (a, b)
 

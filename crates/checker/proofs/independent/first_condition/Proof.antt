@@ -25,7 +25,7 @@ loop-holds : tie.Need-loop-holds Inv-loop μ-loop
 loop-holds c = (omega arith, λ D list m. asked-start D _)
 
 code-in-form-requires : tie.Need-code-in-form-requires Inv-loop μ-loop
-code-in-form-requires c κs = (omega arith, c .before .before .before .pre .1)
+code-in-form-requires c κs = (omega arith, c .before .before .before .pre .0)
 
 sub-m : tie.Need-sub-m Inv-loop μ-loop
 sub-m c = omega arith

@@ -7,7 +7,7 @@ use native.Mathlib.Omega.{arith}
 use Rattle.judgement.specs.Step.{citedCount}
 use Rattle.judgement.specs.Demands.{IsBytes}
 use Rattle.judgement.proofs.Laws.Scan.{clash}
-use Rattle.checker.proofs.Cited.{literals-list, next-within, next-list, list-within}
+use Rattle.checker.proofs.Cited.{literals-list, next-within, next-form}
 use Rattle.checker.proofs.Pricing.{price-sum, cheap}
 use Rattle.checker.proofs.Conditions.{Cleared, cleared-start, next-stop, next-below, next-more, bound-fault, bound-fine}
 use Rattle.checker.proofs.independent.set_finding.Statement.{statement}
@@ -72,9 +72,9 @@ look-at-requires c κs =
     let tail = pairs .before in
     let a = tail .before .before .before .before .before .before in
     let list =
-    next-list (a .args .s .now) (a .args .b .now) (at .loop .j) (a .pre .0) (tail .whole-tail .ensures) (pairs .clause-pairs-at .ensures .0)
+    next-form (a .args .s .now) (a .args .b .now) (at .loop .j) (a .pre .0) (tail .whole-tail .ensures) (pairs .clause-pairs-at .ensures .0)
     (omega arith) (c .before .cited-clause .ensures) in
-    (at .loop .inv .1 .marked .stale, a .pre .2 .unsettled .size, list-within _ 1024 (a .pre .0 .n) list, omega arith)
+    (at .loop .inv .1 .marked .stale, a .pre .2 .unsettled .size, list, omega arith)
 
 add-clause-finding : tie.Need-add-clause-finding Inv-loop μ-loop
 add-clause-finding c = omega arith
@@ -91,13 +91,13 @@ clause-finding-requires c κs =
     let b = a .args .b .now in
     let bytes : IsBytes s = λ i. p .shared-slice-known .given i .fits in
     let list =
-    next-list s b (at .loop .j) (a .pre .0) (tail .whole-tail .ensures) (pairs .clause-pairs-at .ensures .0)
+    next-form s b (at .loop .j) (a .pre .0) (tail .whole-tail .ensures) (pairs .clause-pairs-at .ensures .0)
     (omega (arith, d .before .before .before)) (d .before .before .cited-clause .ensures) in (
       d .look-at .ensures .0,
       a .pre .2 .falsified .size,
       record { room = a .pre .1; list = literals-list s b (a .pre .0) refl },
       cheap s (a .args .prices .now) _ bytes (a .pre .2 .falsified) (a .pre .0 .list),
-      list-within _ 1024 (a .pre .0 .n) list,
+      list,
       omega arith,
     )
 
