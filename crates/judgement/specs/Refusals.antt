@@ -1,18 +1,21 @@
 -- What each refusal is told of: the last column of document 01's table of refusals, which document 02 goes on with. It is some
 -- clause, or some step; which one is said by the tests (Order.antt). And what 14, 20, 21 and 22 say of the clauses that a step cites.
 -- Assumes nothing.
-use Prim.Native.Nat.{ℕ, _≤_, _<_}
+use Prim.Native.Nat.{ℕ, _*_, _≤_, _<_}
 use mathlib.Core.Path.{_≡_}
 use mathlib.Core.Bool.{Bool, false, _||_}
 use mathlib.Core.List.{List, [], _∷_}
-use mathlib.Core.Logic.{_⊎_}
-use lib.ListN.{getD}
+use mathlib.Core.Logic.{_≢_, _⊎_}
+use lib.ListN.{length, getD}
 use lib.Dec.{eqb}
-use Rattle.judgement.specs.Meaning.{variableOf, isPositive, opposite}
-use Rattle.judgement.specs.Sheet.{clauses}
-use Rattle.judgement.specs.Record.{steps}
-use Rattle.judgement.specs.Step.{literals, citedCount}
-use Rattle.judgement.specs.Facts.{Among, In, Mentions, citedClause, OpenYet, PositiveYet, Free, Unsettled}
+use Rattle.judgement.specs.Meaning.{variableOf, isPositive, opposite, cost, Model, none}
+use Rattle.judgement.specs.Number.{numberAt}
+use Rattle.judgement.specs.Sheet.{clauses, problemOf}
+use Rattle.judgement.specs.Record.{claim, steps, assigned, step}
+use Rattle.judgement.specs.declared.Kind.the-variants.{IndependentSet}
+use Rattle.judgement.specs.Step.{kindNumber, literals, tail, cited, citedCount}
+use Rattle.judgement.specs.Facts.{Among, In, Mentions, Rising, ValidSheet, RecordLayout, StepLayout, Inference}
+use Rattle.judgement.specs.Facts.{citedClause, OpenYet, PositiveYet, Free, Unsettled}
 
 -- what a refusal can be told of
 pub data Subject : Type 0 where
@@ -95,6 +98,21 @@ FirstDependent s b number =
     × ((h : ℕ) → 1 ≤ h → h < j → Fits s b h (literals b) (citedClause s b h))
     × Dependent s b j (literals b) (citedClause s b j) number
 
+-- nothing is wrong up to the clauses that step k cites, which is of kind 3: both layouts, the assignment, the steps before it, its
+-- own layout and the numbers that it cites
+pub record Reached (s r : List ℕ) (k : ℕ) : Type 0 where
+  pub sheet : ValidSheet s
+  pub layout : RecordLayout s r
+  pub model : claim r ≢ none → Model (problemOf s) (assigned r)
+  pub cost-is : claim r ≢ none → cost (problemOf s) (assigned r) ≡ claim r
+  pub among : Among (steps r) k
+  pub forms : (h : ℕ) → 1 ≤ h → h ≤ k → StepLayout s (step s r h)
+  pub inferences : (h : ℕ) → 1 ≤ h → h < k → Inference s r h
+  pub kind : numberAt (step s r k) 0 1 ≡ kindNumber IndependentSet
+  pub size : length (tail (step s r k)) ≡ 4 * citedCount (step s r k)
+  pub some : 1 ≤ citedCount (step s r k)
+  pub cites : Rising (cited (step s r k)) (clauses s) (citedCount (step s r k))
+
 -- one of the four
-abbrev pub isOfClause : ℕ → Bool
-isOfClause number = eqb number 14 || eqb number 20 || eqb number 21 || eqb number 22
+abbrev pub isDependence : ℕ → Bool
+isDependence number = eqb number 14 || eqb number 20 || eqb number 21 || eqb number 22

@@ -1,6 +1,6 @@
--- Refusals 14, 20, 21 and 22: each by itself, two of them in one clause, and clause by clause as cited. Every bound is wrong, so
--- that all of them are seen to come before 15. Every faulty step is the second of three, which is the place, and the third is no
--- step at all, so that it is seen not to be looked at before.
+-- Refusals 14, 20, 21 and 22: each by itself, two of them in one clause, and clause by clause as cited. The bound of the faulty step
+-- is always wrong, so that they are seen to come before 15. That step is the second of three, which is the place, and the third is
+-- no step at all, so that it is seen not to be looked at before.
 -- Assumes nothing.
 use Prim.Native.Nat.{ℕ}
 use mathlib.Core.List.{List, [], _∷_}
@@ -63,7 +63,9 @@ cases =
     ∷ toldG (4 ∷ 5 ∷ []) 20  -- of clause 5 it would be 21
     ∷ toldG (1 ∷ 2 ∷ 3 ∷ []) 21  -- of clause 3 it would be 22
     ∷ toldG (2 ∷ 3 ∷ 5 ∷ []) 22  -- of clause 5 it would be 21
-    -- no condition fails, and the bound is left
+    -- 9 comes before them, and 15 after them
+    ∷ toldC (negative 5 ∷ []) (1 ∷ 1 ∷ []) 9  -- clause 1 twice, of which 5 is true
+    ∷ toldC (negative 5 ∷ []) (1 ∷ 4 ∷ []) 9  -- clause 4 of 3
     ∷ toldC (positive 5 ∷ negative 6 ∷ []) (1 ∷ 2 ∷ []) 15
     ∷ []
 

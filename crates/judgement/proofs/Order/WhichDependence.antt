@@ -1,4 +1,4 @@
--- Refusals 14, 20, 21 and 22 said as facts: which of them is found of a step's cited clauses.
+-- Refusals 14, 20, 21 and 22 said as facts: the answer is one of them exactly when these hold.
 -- Assumes nothing.
 use Prim.Native.Nat.{ℕ, _-_, _≤_, _<_}
 use mathlib.Core.Path.{_≡_, refl, sym, ap, _∙_}
@@ -6,6 +6,7 @@ use mathlib.Core.Bool.{Bool, true, false, not, _||_}
 use mathlib.Core.List.{List}
 use mathlib.Core.Logic.{_↔_, _⊎_, inl, inr}
 use native.Mathlib.Omega.{arith}
+use native.Mathlib.Decide.{decLt}
 use borrow.Author.Tests.{not-false}
 use Rattle.judgement.specs.Meaning.{variableOf, isPositive, opposite}
 use Rattle.judgement.specs.declared.Finding.{Finding}
@@ -13,24 +14,28 @@ use Rattle.judgement.specs.declared.Finding.the-variants.{Fine, Fault}
 use Rattle.judgement.specs.Finding.{need, isFine, _then_, overAll}
 use Rattle.judgement.specs.Literals.{count, code, variable, holds, mentions}
 use Rattle.judgement.specs.Pairs.{pairFinding, pairsFinding}
-use Rattle.judgement.specs.Sheet.{sheetHead, sheetPairs, clauseForm, sheetFinding}
+use Rattle.judgement.specs.Sheet.{clauses, sheetHead, sheetPairs, clauseForm, sheetFinding}
 use Rattle.judgement.specs.Record.{steps, step, recordHead, strayBit, recordPairs, recordFinding, brokenClause, claimedCost}
 use Rattle.judgement.specs.declared.Kind.{Kind}
 use Rattle.judgement.specs.declared.Kind.the-variants.{Copy, Cost, IndependentSet, Resolvent, Unknown}
-use Rattle.judgement.specs.Step.{kindOf, literals, citedCount, stepForm, citation}
+use Rattle.judgement.specs.Step.{kindOf, literals, cited, citedCount, stepForm, citesFine, citation}
 use Rattle.judgement.specs.Kinds.{settled, noneTrue, unsettledPositive, someUnsettled, usedBefore, unshared}
 use Rattle.judgement.specs.Kinds.{trueFinding, negativeFinding, settledFinding, sharedFinding, dependsOn, dependence}
 use Rattle.judgement.specs.Kinds.{copyFinding, costBound, independentBound, pivotFinding, resolventFinding, lesserBound, resolutionFinding, kindFinding}
 use Rattle.judgement.specs.Judgement.{oversize, assignmentFinding, stepFinding, close, finding, answerOf, judgement}
-use Rattle.judgement.specs.Facts.{Among, In, Mentions, citedClause, OpenYet, PositiveYet, Free}
-use Rattle.judgement.specs.Refusals.{Dependent, made-true, negative-yet, all-settled, shared-yet, FirstDependent, isOfClause}
-use Rattle.judgement.specs.Demands.{beforeCited, WhichDependence}
+use Rattle.judgement.specs.Facts.{Among, In, Mentions, StepLayout, citedClause, OpenYet, PositiveYet, Free}
+use Rattle.judgement.specs.Refusals.{Dependent, made-true, negative-yet, all-settled, shared-yet, FirstDependent, Reached, isDependence}
+use Rattle.judgement.specs.Demands.{WhichDependence}
 use Rattle.judgement.proofs.Laws.Scan.{clash, or-none-l, or-none-r, false-i, all-fails, any-at}
-use Rattle.judgement.proofs.Laws.Findings.{IsFine, fine-is, then-of, then-l, then-r, over-each, over-of, over-found, found-over, then-found}
+use Rattle.judgement.proofs.Laws.Findings.{IsFine, fine-is, need-true, over-found, found-over, then-found}
 use Rattle.judgement.proofs.Laws.Findings.{Faults, fine-faults, need-faults, then-faults, over-faults, cond-faults, fault-has}
 use Rattle.judgement.proofs.Laws.Membership.{holds-in, mentions-in, in-mentions, in-mention}
 use Rattle.judgement.proofs.Order.WhichFault.{answer-fault}
-use Rattle.judgement.proofs.Facts.IndependentSet.{none-true, true-none, unsettled-positive, positive-unsettled, some-unsettled, unsettled-some, used-before, unshared-disjoint, depends-fits, fits-depends}
+use Rattle.judgement.proofs.Laws.Lists.{rises-rising, rising-rises}
+use Rattle.judgement.proofs.Facts.FirstByte.{kind-begins, begins-kind}
+use Rattle.judgement.proofs.Facts.Layouts.{oversize-facts, facts-oversize, sheet-valid, valid-sheet, record-layout, layout-record, assignment-model, model-assignment}
+use Rattle.judgement.proofs.Facts.Inferences.{step-layout, form-tail, layout-form, step-facts, facts-step}
+use Rattle.judgement.proofs.Facts.IndependentSet.{tail-facts, facts-tail, none-true, true-none, unsettled-positive, positive-unsettled, some-unsettled, unsettled-some, used-before, unshared-disjoint, depends-fits, fits-depends}
 
 -- ---- what a test that fails has found, of C where D is falsified
 
@@ -113,12 +118,12 @@ module _ (s b : List ℕ) (k j : ℕ) (D C : List ℕ) where
           | inr q ↦ clash q negative
         ]),
       )
-  found-depends N (all-settled n opens settled) =
+  found-depends N (all-settled n opens each) =
       rw (
         n,
         true-none D C opens,
-        positive-unsettled D C (λ c inside. inl (settled (variableOf c) (in-mention C c inside))),
-        false-i (someUnsettled D C) (λ p. let (v, inside, unsettled) = some-unsettled D C p in unsettled (settled v inside)),
+        positive-unsettled D C (λ c inside. inl (each (variableOf c) (in-mention C c inside))),
+        false-i (someUnsettled D C) (λ p. let (v, inside, unsettled) = some-unsettled D C p in unsettled (each v inside)),
       )
   found-depends N (shared-yet n opens positives v h inside unsettled l m there) =
       rw (
@@ -148,7 +153,7 @@ first-dependent s b k N P = (
 -- ---- the judgement: no other test has one of the four numbers
 
 abbrev Plain : Finding → Type 0
-Plain f = Faults (λ N P. isOfClause N ≡ false) f
+Plain f = Faults (λ N P. isDependence N ≡ false) f
 
 module _ (s r : List ℕ) where
   ruleset plain = (then-faults, over-faults, need-faults, cond-faults, fine-faults)
@@ -185,10 +190,40 @@ module _ (s r : List ℕ) where
   unfolding close
   close-plain = search plain
 
-  module _ (N P : ℕ) (four : isOfClause N ≡ true) where
+  -- what the tests have shown that come before the clauses that step k cites
+  reached-by : IsFine (oversize s r) → IsFine (sheetFinding s) → IsFine (recordFinding s r) → IsFine (assignmentFinding s r)
+      → (k : ℕ) → Among (steps r) k → ((h : ℕ) → 1 ≤ h → h < k → IsFine (stepFinding s r h)) → IsFine (stepForm s (step s r k) k)
+      → IsFine (citation s (step s r k) k) → kindOf (step s r k) ≡ IndependentSet → Reached s r k
+  unfolding citation citesFine
+  reached-by sizes sheet layout plan k w before form cites kind =
+      let (sheet-size, record-size) = oversize-facts s r sizes in
+      let model = assignment-model s r plan in
+      let tail = tail-facts (step s r k) (rw kind at (form-tail s (step s r k) k form)) in
+      let risen = rw kind at (need-true (citesFine (kindOf (step s r k)) s k (step s r k)) 9 k cites) in
+      record {
+        sheet = sheet-valid s sheet-size sheet;
+        layout = record-layout s r record-size layout;
+        model = λ h. model h .0;
+        cost-is = λ h. model h .1;
+        among = w;
+        forms = λ h l m. form-at h l m (decLt h k);
+        inferences = λ h l m. step-facts s r h (before h l m) .1;
+        kind = rw kind at (kind-begins (step s r k)) (omega arith);
+        size = tail .0;
+        some = tail .1;
+        cites = rises-rising (cited (step s r k)) (clauses s) (citedCount (step s r k)) risen;
+      }
+    where
+      form-at : (h : ℕ) → 1 ≤ h → h ≤ k → Dec (h < k) → StepLayout s (step s r h)
+      form-at h l m (yes less) = step-facts s r h (before h l less) .0
+      form-at h l m (no less) =
+          let e : h ≡ k = omega arith in
+          rw e (step-layout s (step s r k) k form)
+
+  module _ (N P : ℕ) (four : isDependence N ≡ true) where
     -- such a finding is not what is told
     not-plain : (f : Finding) → Plain f → f ≡ Fault N P → ⊥
-    not-plain f plain e = clash four (fault-has (λ N P. isOfClause N ≡ false) f plain e)
+    not-plain f plain e = clash four (fault-has (λ N P. isDependence N ≡ false) f plain e)
 
     skip : (f g : Finding) → Plain f → f then g ≡ Fault N P → IsFine f × (g ≡ Fault N P)
     skip f g plain e = elim (then-found f g N P e) [ inl q ↦ absurd (not-plain f plain q) | inr q ↦ q ]
@@ -208,6 +243,7 @@ module _ (s r : List ℕ) where
     kind-found k Resolvent e = absurd (not-plain _ (search plain depth 12) e)
     kind-found k Unknown e = absurd (clash refl (ap isFine e))
 
+    -- the form of step k and what it cites are fine, it is of kind 3, and this is what it is refused by
     step-found : (k : ℕ) → stepFinding s r k ≡ Fault N P
         → IsFine (stepForm s (step s r k) k) × IsFine (citation s (step s r k) k)
         × (kindOf (step s r k) ≡ IndependentSet) × (P ≡ k) × FirstDependent s (step s r k) N
@@ -219,12 +255,7 @@ module _ (s r : List ℕ) where
         let (kind, place, first) = kind-found k (kindOf b) after-cites in
         (form, cites, kind, place, first)
 
-    -- what it takes to be told one of the four
-    abbrev Reached : ℕ → Type 0
-    Reached k =
-        Among (steps r) k × IsFine (beforeCited s r k) × (kindOf (step s r k) ≡ IndependentSet) × FirstDependent s (step s r k) N
-
-    finding-reached : finding s r ≡ Fault N P → Reached P
+    finding-reached : finding s r ≡ Fault N P → Reached s r P × FirstDependent s (step s r P) N
     unfolding finding
     finding-reached e =
         let (size, after-size) = skip (oversize s r) _ oversize-plain e in
@@ -233,33 +264,41 @@ module _ (s r : List ℕ) where
         let (plan, after-plan) = skip (assignmentFinding s r) _ assignment-plain after-layout in
         let (k, w, before, here) = over-found (stepFinding s r) (steps r) N P (stay _ (close s r) close-plain after-plan) in
         let (form, cites, kind, place, first) = step-found k here in
-        let earlier = over-of (stepFinding s r) (k - 1) (λ h v. before h (v .0) (omega (arith, v .0, v .1))) in
-        rw place (w, search then-of depth 12, kind, first)
+        rw place (reached-by size sheet layout plan k w before form cites kind, first)
 
-  reached-finding : (N k : ℕ) → Among (steps r) k → IsFine (beforeCited s r k) → kindOf (step s r k) ≡ IndependentSet
-      → FirstDependent s (step s r k) N → finding s r ≡ Fault N k
-  unfolding finding stepFinding kindFinding
-  reached-finding N k w before kind first =
-      let size = fine-is (oversize s r) (search (before, then-l) depth 12) in
-      let sheet = fine-is (sheetFinding s) (search (before, then-l, then-r) depth 12) in
-      let layout = fine-is (recordFinding s r) (search (before, then-l, then-r) depth 12) in
-      let plan = fine-is (assignmentFinding s r) (search (before, then-l, then-r) depth 12) in
-      let earlier = over-each (stepFinding s r) (k - 1) (search (before, then-l, then-r) depth 12) in
-      rw (size, sheet, layout, plan, found-over (stepFinding s r) (steps r) N k k w (λ h l m. earlier h (l, omega arith)) here)
+  reached-finding : (N k : ℕ) → Reached s r k → FirstDependent s (step s r k) N → finding s r ≡ Fault N k
+  unfolding finding stepFinding citation citesFine kindFinding
+  reached-finding N k h first =
+      rw (
+        fine-is (oversize s r) (facts-oversize s r (h .sheet .size, h .layout .size)),
+        fine-is (sheetFinding s) (valid-sheet s (h .sheet)),
+        fine-is (recordFinding s r) (layout-record s r (h .layout)),
+        fine-is (assignmentFinding s r) (model-assignment s r (h .model) (h .cost-is)),
+        found-over (stepFinding s r) (steps r) N k k (h .among) earlier here,
+      )
     where
+      earlier : (g : ℕ) → 1 ≤ g → g < k → IsFine (stepFinding s r g)
+      earlier g l m = facts-step s r g (h .sheet .lists) (h .forms g l (omega arith)) (h .inferences g l m)
+
+      kind : kindOf (step s r k) ≡ IndependentSet
+      kind = begins-kind IndependentSet (step s r k) (omega arith) (h .kind)
+
+      form : stepForm s (step s r k) k ≡ Fine
+      form =
+          fine-is (stepForm s (step s r k) k)
+          (layout-form s (step s r k) k (h .forms k (h .among .0) (omega arith)) (rw kind (facts-tail (step s r k) (h .size) (h .some))))
+
       here : stepFinding s r k ≡ Fault N k
       here =
-          let b = step s r k in
-          let form = fine-is (stepForm s b k) (search (before, then-l, then-r) depth 12) in
-          let cites = fine-is (citation s b k) (search (before, then-l, then-r) depth 12) in
-          rw (form, cites, kind, first-dependent s b k N k .1 (refl, first))
+          let cites = rising-rises (cited (step s r k)) (clauses s) (citedCount (step s r k)) (h .cites) in
+          rw (form, kind, cites, first-dependent s (step s r k) k N k .1 (refl, first))
 
--- the answer is one of the four at place k exactly when step k is reached and its cited clauses say so
+-- the answer is one of the four at place k exactly when its cited clauses are reached and say so
 pub which-dependence : (s r : List ℕ) → WhichDependence s r (judgement s r)
 unfolding judgement
 which-dependence s r N k four = (
   λ (a, b). finding-reached s r N k four (answer-fault s r (finding s r) N k (λ z. clash (rw z at four) refl) a b),
-  λ (w, before, kind, first).
-      let e = reached-finding s r N k w before kind first in
+  λ (h, first).
+      let e = reached-finding s r N k h first in
       (rw e, rw e),
 )
