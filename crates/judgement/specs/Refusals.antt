@@ -82,12 +82,12 @@ Fits s b j D C = OpenYet D C × PositiveYet D C × Unsettled D C × DisjointBefo
 pub data Dependent (s b : List ℕ) (j : ℕ) (D C : List ℕ) (number : ℕ) : Type 0 where
   -- a literal is made true
   made-true : number ≡ 14 → (c : ℕ) → In C c → In D (opposite c) → Dependent s b j D C number
-  -- a literal that is not settled is negative
+  -- none is, and one that is not settled is negative
   negative-yet : number ≡ 20 → OpenYet D C → (c : ℕ) → In C c → Free D (variableOf c) → isPositive c ≡ false
       → Dependent s b j D C number
-  -- every variable is settled
+  -- none is made true, and every variable is settled
   all-settled : number ≡ 21 → OpenYet D C → ((v : ℕ) → Mentions C v → Mentions D v) → Dependent s b j D C number
-  -- a variable that is not settled stands in a clause cited before
+  -- none is made true, those that are not settled are positive, and the variable of one of them stands in a clause cited before
   shared-yet : number ≡ 22 → OpenYet D C → PositiveYet D C → (v h : ℕ) → Mentions C v → Free D v → 1 ≤ h → h < j
       → Mentions (citedClause s b h) v → Dependent s b j D C number
 
@@ -98,8 +98,8 @@ FirstDependent s b number =
     × ((h : ℕ) → 1 ≤ h → h < j → Fits s b h (literals b) (citedClause s b h))
     × Dependent s b j (literals b) (citedClause s b j) number
 
--- nothing is wrong up to the clauses that step k cites, which is of kind 3: both layouts, the assignment, the steps before it, its
--- own layout and the numbers that it cites
+-- step k is of kind 3, and nothing is wrong before the clauses that it cites: the layouts, the assignment, the steps before it, its
+-- own layout and the numbers of these clauses
 pub record Reached (s r : List ℕ) (k : ℕ) : Type 0 where
   pub sheet : ValidSheet s
   pub layout : RecordLayout s r
@@ -113,6 +113,6 @@ pub record Reached (s r : List ℕ) (k : ℕ) : Type 0 where
   pub some : 1 ≤ citedCount (step s r k)
   pub cites : Rising (cited (step s r k)) (clauses s) (citedCount (step s r k))
 
--- one of the four
+-- the number is one of the four
 abbrev pub isDependence : ℕ → Bool
 isDependence number = eqb number 14 || eqb number 20 || eqb number 21 || eqb number 22

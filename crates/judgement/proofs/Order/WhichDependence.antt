@@ -1,17 +1,17 @@
 -- Refusals 14, 20, 21 and 22 said as facts: the answer is one of them exactly when these hold.
 -- Assumes nothing.
 use Prim.Native.Nat.{ℕ, _-_, _≤_, _<_}
-use mathlib.Core.Path.{_≡_, refl, sym, ap, _∙_}
+use mathlib.Core.Path.{_≡_, refl, ap}
 use mathlib.Core.Bool.{Bool, true, false, not, _||_}
 use mathlib.Core.List.{List}
-use mathlib.Core.Logic.{_↔_, _⊎_, inl, inr}
+use mathlib.Core.Logic.{_↔_, inl, inr}
 use native.Mathlib.Omega.{arith}
 use native.Mathlib.Decide.{decLt}
 use borrow.Author.Tests.{not-false}
 use Rattle.judgement.specs.Meaning.{variableOf, isPositive, opposite}
 use Rattle.judgement.specs.declared.Finding.{Finding}
 use Rattle.judgement.specs.declared.Finding.the-variants.{Fine, Fault}
-use Rattle.judgement.specs.Finding.{need, isFine, _then_, overAll}
+use Rattle.judgement.specs.Finding.{need, isFine, _then_}
 use Rattle.judgement.specs.Literals.{count, code, variable, holds, mentions}
 use Rattle.judgement.specs.Pairs.{pairFinding, pairsFinding}
 use Rattle.judgement.specs.Sheet.{clauses, sheetHead, sheetPairs, clauseForm, sheetFinding}
@@ -22,8 +22,8 @@ use Rattle.judgement.specs.Step.{kindOf, literals, cited, citedCount, st
 use Rattle.judgement.specs.Kinds.{settled, noneTrue, unsettledPositive, someUnsettled, usedBefore, unshared}
 use Rattle.judgement.specs.Kinds.{trueFinding, negativeFinding, settledFinding, sharedFinding, dependsOn, dependence}
 use Rattle.judgement.specs.Kinds.{copyFinding, costBound, independentBound, pivotFinding, resolventFinding, lesserBound, resolutionFinding, kindFinding}
-use Rattle.judgement.specs.Judgement.{oversize, assignmentFinding, stepFinding, close, finding, answerOf, judgement}
-use Rattle.judgement.specs.Facts.{Among, In, Mentions, StepLayout, citedClause, OpenYet, PositiveYet, Free}
+use Rattle.judgement.specs.Judgement.{oversize, assignmentFinding, stepFinding, close, finding, judgement}
+use Rattle.judgement.specs.Facts.{Among, In, Mentions, StepLayout, citedClause, Free}
 use Rattle.judgement.specs.Refusals.{Dependent, made-true, negative-yet, all-settled, shared-yet, FirstDependent, Reached, isDependence}
 use Rattle.judgement.specs.Demands.{WhichDependence}
 use Rattle.judgement.proofs.Laws.Scan.{clash, or-none-l, or-none-r, false-i, all-fails, any-at}

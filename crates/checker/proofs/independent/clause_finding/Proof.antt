@@ -1,7 +1,6 @@
 -- `checker::independent::clause_finding` meets its contract: no mark has reached t, so that from there on those of the step's list are
 -- all that there is.
 -- Assumes nothing.
-use native.Mathlib.Omega.{arith}
 use borrow.Author.Needs.{needs}
 use Rattle.checker.proofs.independent.clause_finding.Statement.{statement}
 use Rattle.checker.proofs.independent.clause_finding.Tie as tie
