@@ -1,21 +1,21 @@
 -- What each refusal is told of: the last column of document 01's table of refusals, which document 02 goes on with. It is some
--- clause, or some step; which one is said by the tests (Order.antt). And what 14, 20, 21 and 22 say of the clauses that a step cites.
+-- clause, or some step; which one is said by the tests (Order.antt). And when a step of kind 3 is refused by one of the numbers of
+-- its kind, said as facts, without the tests.
 -- Assumes nothing.
-use Prim.Native.Nat.{ℕ, _*_, _≤_, _<_}
+use Prim.Native.Nat.{ℕ, _≤_, _<_}
 use mathlib.Core.Path.{_≡_}
 use mathlib.Core.Bool.{Bool, false, _||_}
 use mathlib.Core.List.{List, [], _∷_}
 use mathlib.Core.Logic.{_≢_, _⊎_}
-use lib.ListN.{length, getD}
+use lib.ListN.{getD}
 use lib.Dec.{eqb}
 use Rattle.judgement.specs.Meaning.{variableOf, isPositive, opposite, cost, Model, none}
-use Rattle.judgement.specs.Number.{numberAt}
 use Rattle.judgement.specs.Sheet.{clauses, problemOf}
 use Rattle.judgement.specs.Record.{claim, steps, assigned, step}
-use Rattle.judgement.specs.declared.Kind.the-variants.{IndependentSet}
-use Rattle.judgement.specs.Step.{kindNumber, literals, tail, cited, citedCount}
-use Rattle.judgement.specs.Facts.{Among, In, Mentions, Rising, ValidSheet, RecordLayout, StepLayout, Inference}
-use Rattle.judgement.specs.Facts.{citedClause, OpenYet, PositiveYet, Free, Unsettled}
+use Rattle.judgement.specs.Step.{bound, literals, citedCount}
+use Rattle.judgement.specs.Kinds.{independentCost}
+use Rattle.judgement.specs.Facts.{Among, In, Mentions, ValidSheet, RecordLayout, StepLayout, Inference}
+use Rattle.judgement.specs.Facts.{citedClause, OpenYet, PositiveYet, Free, Unsettled, CitesClauses}
 
 -- what a refusal can be told of
 pub data Subject : Type 0 where
@@ -108,11 +108,17 @@ pub record Reached (s r : List ℕ) (k : ℕ) : Type 0 where
   pub among : Among (steps r) k
   pub forms : (h : ℕ) → 1 ≤ h → h ≤ k → StepLayout s (step s r h)
   pub inferences : (h : ℕ) → 1 ≤ h → h < k → Inference s r h
-  pub kind : numberAt (step s r k) 0 1 ≡ kindNumber IndependentSet
-  pub size : length (tail (step s r k)) ≡ 4 * citedCount (step s r k)
-  pub some : 1 ≤ citedCount (step s r k)
-  pub cites : Rising (cited (step s r k)) (clauses s) (citedCount (step s r k))
+  pub citing : CitesClauses s (step s r k)
 
--- the number is one of the four
-abbrev pub isDependence : ℕ → Bool
-isDependence number = eqb number 14 || eqb number 20 || eqb number 21 || eqb number 22
+-- what a step with the body b is refused by: one of the four; or 15, where all clauses that it cites fit and its bound is not the
+-- cost
+abbrev pub RefusedBy : List ℕ → List ℕ → ℕ → Type 0
+RefusedBy s b number =
+    FirstDependent s b number
+    ⊎ ((number ≡ 15)
+    × ((j : ℕ) → Among (citedCount b) j → Fits s b j (literals b) (citedClause s b j))
+    × (bound b ≢ independentCost s b))
+
+-- the number is one of those of kind 3
+abbrev pub isOfIndependent : ℕ → Bool
+isOfIndependent number = eqb number 14 || eqb number 15 || eqb number 20 || eqb number 21 || eqb number 22

@@ -63,7 +63,12 @@ cases =
     ∷ toldG (4 ∷ 5 ∷ []) 20  -- of clause 5 it would be 21
     ∷ toldG (1 ∷ 2 ∷ 3 ∷ []) 21  -- of clause 3 it would be 22
     ∷ toldG (2 ∷ 3 ∷ 5 ∷ []) 22  -- of clause 5 it would be 21
-    -- 9 comes before them, and 15 after them
+    -- 8 and 9 come before them, and 15 after them
+    ∷ record {
+      sheet = sheetC;
+      «record» = recordOf none (0x00 ∷ []) (costStep [] 0 ∷ stepOf 3 (negative 5 ∷ []) 0 (bytesOf 5 1) ∷ []);
+      answer = refused 8 2;
+    }  -- a tail of 5 bytes, the first of which cite clause 1, of which 5 is true
     ∷ toldC (negative 5 ∷ []) (1 ∷ 1 ∷ []) 9  -- clause 1 twice, of which 5 is true
     ∷ toldC (negative 5 ∷ []) (1 ∷ 4 ∷ []) 9  -- clause 4 of 3
     ∷ toldC (positive 5 ∷ negative 6 ∷ []) (1 ∷ 2 ∷ []) 15

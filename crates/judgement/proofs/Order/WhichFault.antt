@@ -1,15 +1,15 @@
 -- Which fault: a refusal has number N and place P exactly when N at P is the first fault in the list of all tests.
 -- Assumes nothing.
 use Prim.Native.Nat.{ℕ, zero, suc, _<_}
-use mathlib.Core.Path.{_≡_, refl, sym, ap, _∙_}
-use mathlib.Core.Bool.{Bool, true, false, cond, true≢false}
+use mathlib.Core.Path.{_≡_, refl, sym, _∙_}
+use mathlib.Core.Bool.{Bool, true, false, cond}
 use mathlib.Core.List.{List, [], _∷_, _++_}
 use mathlib.Core.Logic.{_≢_}
 use native.Mathlib.Omega.{arith}
 use lib.ListN.{getD}
 use Rattle.judgement.specs.declared.Finding.{Finding}
 use Rattle.judgement.specs.declared.Finding.the-variants.{Fine, Fault}
-use Rattle.judgement.specs.Finding.{isFine, _then_, overAll}
+use Rattle.judgement.specs.Finding.{_then_, overAll}
 use Rattle.judgement.specs.Pairs.{pairFinding, pairsFinding}
 use Rattle.judgement.specs.Sheet.{clauses, clause, sheetFinding, sheetPairs, clauseForm}
 use Rattle.judgement.specs.declared.Kind.{Kind}
@@ -20,7 +20,7 @@ use Rattle.judgement.specs.Kinds.{dependsOn, dependence, resolutionFindi
 use Rattle.judgement.specs.Judgement.{assignmentFinding, stepFinding, finding, answerOf, judgement}
 use Rattle.judgement.specs.Order.{each, pairTests, dependenceTests, resolutionTests, kindTests, stepTests, assignmentTests, tests, FirstFault}
 use Rattle.judgement.specs.Demands.{WhichFault}
-use Rattle.judgement.proofs.Laws.Findings.{then-assoc, then-fine}
+use Rattle.judgement.proofs.Laws.Findings.{then-assoc, then-fine, not-fine}
 
 -- ---- the first fault of a list
 
@@ -91,9 +91,6 @@ in-order s r =
     )
 
 -- ---- what the first fault of a list is
-
-not-fine : {number place : ℕ} → Fine ≡ Fault number place → ⊥
-not-fine e = true≢false (ap isFine e)
 
 first-found : (list : List Finding) (N P : ℕ) → first list ≡ Fault N P → FirstFault list N P
 first-found [] N P e = absurd (not-fine e)
