@@ -4,6 +4,7 @@ pub mod FirstByte
 pub mod Copy
 pub mod IndependentSet
 pub mod Resolvent
+pub mod WeightedSet
 pub mod Inferences
 pub mod Accepted
 pub mod Shown

@@ -7,3 +7,4 @@ pub mod Lists
 pub mod Buffer
 pub mod Truth
 pub mod Cost
+pub mod Integers

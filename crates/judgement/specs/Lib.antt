@@ -1,4 +1,5 @@
 pub mod Scan
+pub mod Integers
 pub mod Meaning
 pub mod Finding
 pub mod Number
@@ -8,6 +9,7 @@ pub mod Literals
 pub mod Sheet
 pub mod Record
 pub mod Step
+pub mod Linear
 pub mod Kinds
 pub mod Judgement
 pub mod Place

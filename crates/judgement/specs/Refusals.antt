@@ -1,6 +1,6 @@
 -- What each refusal is told of: the last column of document 01's table of refusals, which document 02 goes on with. It is some
--- clause, or some step; which one is said by the tests (Order.antt). And when a step of kind 3 is refused by one of the numbers of
--- its kind, said as facts, without the tests.
+-- clause, or some step; which one is said by the tests (Order.antt). And when a step of kind 3 or 5 is refused by one of the
+-- numbers of its kind, said as facts, without the tests.
 -- Assumes nothing.
 use Prim.Native.Nat.{ℕ, _≤_, _<_}
 use mathlib.Core.Path.{_≡_}
@@ -12,10 +12,12 @@ use lib.Dec.{eqb}
 use Rattle.judgement.specs.Meaning.{variableOf, isPositive, opposite, cost, Model, none}
 use Rattle.judgement.specs.Sheet.{clauses, problemOf}
 use Rattle.judgement.specs.Record.{claim, steps, assigned, step}
-use Rattle.judgement.specs.Step.{bound, literals, citedCount}
+use Rattle.judgement.specs.Step.{bound, literals, tail, citedCount, divisor, entryCount, weight}
 use Rattle.judgement.specs.Kinds.{independentCost}
 use Rattle.judgement.specs.Facts.{Among, In, Mentions, ValidSheet, RecordLayout, StepLayout, Inference}
-use Rattle.judgement.specs.Facts.{citedClause, OpenYet, PositiveYet, Free, Unsettled, CitesClauses}
+use Rattle.judgement.specs.Facts.{citedClause, OpenYet, PositiveYet, Free, Unsettled, Weighted}
+use Rattle.judgement.specs.Integers.{LeastCover}
+use Rattle.judgement.specs.Linear.{total}
 
 -- what a refusal can be told of
 pub data Subject : Type 0 where
@@ -61,6 +63,8 @@ subjects =
     ∷ aStep  -- 20, unsettled shut
     ∷ aStep  -- 21, all settled
     ∷ aStep  -- 22, shared paddle
+    ∷ aStep  -- 23, weights
+    ∷ aStep  -- 24, linear bound
     ∷ []
 
 -- refusal `number` may be told at p; only a number of the table has a place (`numbered` in proofs/Order/Shape.antt)
@@ -98,8 +102,7 @@ FirstDependent s b number =
     × ((h : ℕ) → 1 ≤ h → h < j → Fits s b h (literals b) (citedClause s b h))
     × Dependent s b j (literals b) (citedClause s b j) number
 
--- step k is of kind 3, and nothing is wrong before the clauses that it cites: the layouts, the assignment, the steps before it, its
--- own layout and the numbers of these clauses
+-- nothing is wrong before the tail of step k: the layouts, the assignment, the steps before it and its own layout
 pub record Reached (s r : List ℕ) (k : ℕ) : Type 0 where
   pub sheet : ValidSheet s
   pub layout : RecordLayout s r
@@ -108,9 +111,8 @@ pub record Reached (s r : List ℕ) (k : ℕ) : Type 0 where
   pub among : Among (steps r) k
   pub forms : (h : ℕ) → 1 ≤ h → h ≤ k → StepLayout s (step s r h)
   pub inferences : (h : ℕ) → 1 ≤ h → h < k → Inference s r h
-  pub citing : CitesClauses s (step s r k)
 
--- what a step with the body b is refused by: one of the four; or 15, where all clauses that it cites fit and its bound is not the
+-- what a step of kind 3 with the body b is refused by: one of the four; or 15, where all clauses that it cites fit and its bound is not the
 -- cost
 abbrev pub RefusedBy : List ℕ → List ℕ → ℕ → Type 0
 RefusedBy s b number =
@@ -122,3 +124,17 @@ RefusedBy s b number =
 -- the number is one of those of kind 3
 abbrev pub isOfIndependent : ℕ → Bool
 isOfIndependent number = eqb number 14 || eqb number 15 || eqb number 20 || eqb number 21 || eqb number 22
+
+-- ---- refusals 23 and 24, said as facts of the step with the body b
+
+pub data RefusedLinear (s b : List ℕ) (number : ℕ) : Type 0 where
+  -- the divisor is 0
+  no-divisor : number ≡ 23 → divisor (tail b) ≡ 0 → RefusedLinear s b number
+  -- a weight is 0
+  no-weight : number ≡ 23 → (j : ℕ) → Among (entryCount (tail b)) j → weight (tail b) j ≡ 0 → RefusedLinear s b number
+  -- none is, and the bound is not the least that covers the total
+  other-bound : number ≡ 24 → Weighted (tail b) → (LeastCover (total s b) (divisor (tail b)) (bound b) → ⊥) → RefusedLinear s b number
+
+-- the number is one of those of kind 5
+abbrev pub isOfLinear : ℕ → Bool
+isOfLinear number = eqb number 23 || eqb number 24

@@ -9,14 +9,14 @@ use native.Mathlib.Omega.{arith}
 use lib.ListN.{length, drop, length-take}
 use lib.Dec.{leb}
 use borrow.Author.Tests.{leb-true}
-use Rattle.judgement.specs.declared.Kind.the-variants.{Copy, Cost, IndependentSet, Resolvent}
+use Rattle.judgement.specs.declared.Kind.the-variants.{Copy, Cost, IndependentSet, Resolvent, WeightedSet}
 use Rattle.judgement.specs.Pairs.{pairOffset, pairLength, body}
 use Rattle.judgement.specs.Sheet.{clauses, clausePairsAt}
 use Rattle.judgement.specs.Record.{steps, stepPairsAt, step}
 use Rattle.judgement.specs.Step.{kindOf, cited}
 use Rattle.judgement.specs.Judgement.{judgement, accepts, clausePart, literalsPart, stepPart, shownPart}
 use Rattle.judgement.specs.Place.{Inside}
-use Rattle.judgement.specs.Facts.{Among, PairRule, ValidSheet, RecordLayout, StepLayout, Inference, copies, costs, independent, resolution, Acceptable}
+use Rattle.judgement.specs.Facts.{Among, PairRule, ValidSheet, RecordLayout, StepLayout, Inference, copies, costs, independent, resolution, linear, Acceptable}
 use Rattle.judgement.proofs.Laws.Scan.{which, and-l, and-r}
 use Rattle.judgement.proofs.Facts.FirstByte.{begins-kind}
 use Rattle.judgement.proofs.Facts.Accepted.{exactly-when}
@@ -60,6 +60,7 @@ step-inside s r k ok w = go (ok .inferences k w)
     go (costs i) = rw (begins-kind Cost (step s r k) (omega arith) (i .kind)) own
     go (independent i) = rw (begins-kind IndependentSet (step s r k) (omega arith) (i .citing .kind)) own
     go (resolution i) = rw (begins-kind Resolvent (step s r k) (omega arith) (i .kind)) own
+    go (linear i) = rw (begins-kind WeightedSet (step s r k) (omega arith) (i .citing .kind)) own
 
 pub shown-inside : (s r : List ℕ) (k : ℕ) → Inside s r (shownPart s r k)
 unfolding shownPart

@@ -13,7 +13,7 @@ use Rattle.judgement.specs.Finding.{_then_, overAll}
 use Rattle.judgement.specs.Pairs.{pairFinding, pairsFinding}
 use Rattle.judgement.specs.Sheet.{clauses, clause, sheetFinding, sheetPairs, clauseForm}
 use Rattle.judgement.specs.declared.Kind.{Kind}
-use Rattle.judgement.specs.declared.Kind.the-variants.{Copy, Cost, IndependentSet, Resolvent, Unknown}
+use Rattle.judgement.specs.declared.Kind.the-variants.{Copy, Cost, IndependentSet, Resolvent, WeightedSet, Unknown}
 use Rattle.judgement.specs.Step.{kindOf, literals, cited}
 use Rattle.judgement.specs.Record.{claimsNone, steps, step, recordPairs, recordFinding, brokenClause, claimedCost}
 use Rattle.judgement.specs.Kinds.{dependsOn, dependence, resolutionFinding, kindFinding}
@@ -61,6 +61,7 @@ first-kind Cost s r k = then-fine _
 first-kind IndependentSet s r k =
     rw (first-append, first-each _ _ _ (λ j. first-dependence s (step s r k) k j (literals (step s r k)) (clause s (cited (step s r k) j))), then-fine)
 first-kind Resolvent s r k = first-resolution (step s r (cited (step s r k) 1)) (step s r (cited (step s r k) 2)) (step s r k) k
+first-kind WeightedSet s r k = rw then-fine
 first-kind Unknown s r k = refl
 
 first-step : (s r : List ℕ) (k : ℕ) → first (stepTests s r k) ≡ stepFinding s r k

@@ -6,36 +6,35 @@ use mathlib.Core.Bool.{Bool, true, false, not, _||_}
 use mathlib.Core.List.{List}
 use mathlib.Core.Logic.{_↔_, inl, inr}
 use native.Mathlib.Omega.{arith}
-use native.Mathlib.Decide.{decLt}
 use lib.Dec.{eqb}
-use borrow.Author.Tests.{ne-eqb, eqb-false, not-false}
+use borrow.Author.Tests.{ne-eqb, eqb-true, eqb-false, not-false}
 use Rattle.judgement.specs.Meaning.{variableOf, isPositive, opposite}
 use Rattle.judgement.specs.declared.Finding.{Finding}
 use Rattle.judgement.specs.declared.Finding.the-variants.{Fine, Fault}
 use Rattle.judgement.specs.Finding.{need, _then_}
 use Rattle.judgement.specs.Literals.{count, code, variable, holds}
-use Rattle.judgement.specs.Pairs.{pairFinding, pairsFinding}
-use Rattle.judgement.specs.Sheet.{clauses, sheetHead, sheetPairs, clauseForm, sheetFinding}
-use Rattle.judgement.specs.Record.{steps, step, recordHead, strayBit, recordPairs, recordFinding, brokenClause, claimedCost}
+use Rattle.judgement.specs.Sheet.{clauses}
+use Rattle.judgement.specs.Record.{step}
 use Rattle.judgement.specs.declared.Kind.{Kind}
-use Rattle.judgement.specs.declared.Kind.the-variants.{Copy, Cost, IndependentSet, Resolvent, Unknown}
+use Rattle.judgement.specs.declared.Kind.the-variants.{Copy, Cost, IndependentSet, Resolvent, WeightedSet, Unknown}
 use Rattle.judgement.specs.Step.{kindOf, bound, literals, cited, citedCount, stepForm, citesFine, citation}
 use Rattle.judgement.specs.Kinds.{settled, noneTrue, unsettledPositive, someUnsettled, usedBefore, unshared}
 use Rattle.judgement.specs.Kinds.{trueFinding, negativeFinding, settledFinding, sharedFinding, dependsOn, dependence}
 use Rattle.judgement.specs.Kinds.{copyFinding, costBound, independentCost, independentBound, pivotFinding, resolventFinding, lesserBound, resolutionFinding, kindFinding}
-use Rattle.judgement.specs.Judgement.{oversize, assignmentFinding, stepFinding, close, finding, judgement}
-use Rattle.judgement.specs.Facts.{Among, In, Mentions, StepLayout, citedClause, Free}
+use Rattle.judgement.specs.Linear.{weightsFinding, linearBound}
+use Rattle.judgement.specs.Judgement.{finding, judgement}
+use Rattle.judgement.specs.Facts.{Among, In, Mentions, citedClause, Free, CitesClauses}
 use Rattle.judgement.specs.Refusals.{Dependent, made-true, negative-yet, all-settled, shared-yet, FirstDependent, Reached, RefusedBy, isOfIndependent}
 use Rattle.judgement.specs.Demands.{WhichIndependent}
-use Rattle.judgement.proofs.Laws.Scan.{clash, or-none-l, or-none-r, false-i, all-fails, any-at}
+use Rattle.judgement.proofs.Laws.Scan.{clash, or-e, or-none-l, or-none-r, false-i, all-fails, any-at}
 use Rattle.judgement.proofs.Laws.Findings.{IsFine, fine-is, need-true, not-fine, over-found, found-over, then-found}
-use Rattle.judgement.proofs.Laws.Findings.{Faults, fine-faults, need-faults, then-faults, over-faults, cond-faults, fault-has}
+use Rattle.judgement.proofs.Laws.Findings.{Faults, fine-faults, need-faults, then-faults, over-faults, fault-has}
 use Rattle.judgement.proofs.Laws.Membership.{holds-in, mentions-in, in-mention, free}
 use Rattle.judgement.proofs.Order.WhichFault.{answer-fault}
+use Rattle.judgement.proofs.Order.WhichKind.{isOfKind, finding-kind, kind-finding}
 use Rattle.judgement.proofs.Laws.Lists.{rises-rising, rising-rises}
 use Rattle.judgement.proofs.Facts.FirstByte.{kind-begins, begins-kind}
-use Rattle.judgement.proofs.Facts.Layouts.{oversize-facts, facts-oversize, sheet-valid, valid-sheet, record-layout, layout-record, assignment-model, model-assignment}
-use Rattle.judgement.proofs.Facts.Inferences.{step-layout, form-tail, layout-form, step-facts, facts-step}
+use Rattle.judgement.proofs.Facts.Inferences.{form-tail, layout-form}
 use Rattle.judgement.proofs.Facts.IndependentSet.{tail-facts, facts-tail, none-true, true-none, unsettled-positive, positive-unsettled, some-unsettled, unsettled-some, used-before, unshared-disjoint, depends-fits, fits-depends, dependence-fits, fits-dependence}
 
 -- ---- what a test that fails has found, of C where D is falsified
@@ -171,152 +170,83 @@ set-refused s b k N P = (
     other false e fine q =
         (cc, inr (cc, dependence-fits s b k fine, eqb-false (bound b) (independentCost s b) e))
 
--- ---- the judgement: no other test has one of these numbers
+-- ---- the judgement: no other kind has one of these numbers
 
 abbrev Plain : Finding → Type 0
 Plain f = Faults (λ N P. isOfIndependent N ≡ false) f
 
+of-kind : (N : ℕ) → isOfIndependent N ≡ true → isOfKind N ≡ true
+of-kind N four = elim (or-e (eqb N 14 || eqb N 15 || eqb N 20 || eqb N 21) (eqb N 22) four) [
+  | inl p ↦ elim (or-e (eqb N 14 || eqb N 15 || eqb N 20) (eqb N 21) p) [
+    | inl q ↦ elim (or-e (eqb N 14 || eqb N 15) (eqb N 20) q) [
+      | inl u ↦ elim (or-e (eqb N 14) (eqb N 15) u) [ inl x ↦ rw (eqb-true N 14 x) | inr x ↦ rw (eqb-true N 15 x) ]
+      | inr x ↦ rw (eqb-true N 20 x)
+    ]
+    | inr x ↦ rw (eqb-true N 21 x)
+  ]
+  | inr x ↦ rw (eqb-true N 22 x)
+]
+
 module _ (s r : List ℕ) where
-  ruleset plain = (then-faults, over-faults, need-faults, cond-faults, fine-faults)
+  ruleset plain = (then-faults, over-faults, need-faults, fine-faults)
 
-  oversize-plain : Plain (oversize s r)
-  unfolding oversize
-  oversize-plain = search plain
+  kind-found : (N P k : ℕ) (K : Kind) → isOfIndependent N ≡ true → kindFinding K s r k ≡ Fault N P
+      → (K ≡ IndependentSet) × RefusedBy s (step s r k) N
+  unfolding kindFinding copyFinding costBound resolutionFinding pivotFinding resolventFinding lesserBound weightsFinding linearBound
+  kind-found N P k K four = go K
+    where
+      not-plain : (f : Finding) → Plain f → f ≡ Fault N P → ⊥
+      not-plain f plain e = clash four (fault-has (λ N P. isOfIndependent N ≡ false) f plain e)
 
-  sheet-plain : Plain (sheetFinding s)
-  unfolding sheetFinding sheetHead sheetPairs pairsFinding pairFinding clauseForm
-  sheet-plain = search plain depth 12
+      go : (K : Kind) → kindFinding K s r k ≡ Fault N P → (K ≡ IndependentSet) × RefusedBy s (step s r k) N
+      go Copy e = absurd (not-plain _ (search plain) e)
+      go Cost e = absurd (not-plain _ (search plain) e)
+      go IndependentSet e = (refl, set-refused s (step s r k) k N P .0 e .1)
+      go Resolvent e = absurd (not-plain _ (search plain depth 12) e)
+      go WeightedSet e = absurd (not-plain _ (search plain depth 12) e)
+      go Unknown e = absurd (not-fine e)
 
-  record-plain : Plain (recordFinding s r)
-  unfolding recordFinding recordHead strayBit recordPairs pairsFinding pairFinding
-  record-plain = search plain depth 12
-
-  assignment-plain : Plain (assignmentFinding s r)
-  unfolding assignmentFinding brokenClause claimedCost
-  assignment-plain = search plain depth 12
-
-  form-plain : (b : List ℕ) (k : ℕ) → Plain (stepForm s b k)
-  unfolding stepForm
-  form-plain b k = search plain
-
-  citation-plain : (b : List ℕ) (k : ℕ) → Plain (citation s b k)
-  unfolding citation
-  citation-plain b k = search plain
-
-  close-plain : Plain (close s r)
-  unfolding close
-  close-plain = search plain
-
-  -- what the tests have shown that come before the clauses that step k cites
-  reached-by : IsFine (oversize s r) → IsFine (sheetFinding s) → IsFine (recordFinding s r) → IsFine (assignmentFinding s r)
-      → (k : ℕ) → Among (steps r) k → ((h : ℕ) → 1 ≤ h → h < k → IsFine (stepFinding s r h)) → IsFine (stepForm s (step s r k) k)
-      → IsFine (citation s (step s r k) k) → kindOf (step s r k) ≡ IndependentSet → Reached s r k
+  -- what it is to be of kind 3, with a tail in form that cites clauses in order
+  citing-by : (k : ℕ) → IsFine (stepForm s (step s r k) k) → IsFine (citation s (step s r k) k)
+      → kindOf (step s r k) ≡ IndependentSet → CitesClauses s (step s r k)
   unfolding citation citesFine
-  reached-by sizes sheet layout plan k w before form cites kind =
-      let (sheet-size, record-size) = oversize-facts s r sizes in
-      let model = assignment-model s r plan in
-      let tail = tail-facts (step s r k) (rw kind at (form-tail s (step s r k) k form)) in
-      let risen = rw kind at (need-true (citesFine (kindOf (step s r k)) s k (step s r k)) 9 k cites) in
+  citing-by k form cites kind =
+      let b = step s r k in
+      let tail = tail-facts b (rw kind at (form-tail s b k form)) in
+      let risen = rw kind at (need-true (citesFine (kindOf b) s k b) 9 k cites) in
       record {
-        sheet = sheet-valid s sheet-size sheet;
-        layout = record-layout s r record-size layout;
-        model = λ h. model h .0;
-        cost-is = λ h. model h .1;
-        among = w;
-        forms = λ h l m. form-at h l m (decLt h k);
-        inferences = λ h l m. step-facts s r h (before h l m) .1;
-        citing = record {
-          kind = rw kind at (kind-begins (step s r k)) (omega arith);
-          size = tail .0;
-          some = tail .1;
-          cites = rises-rising (cited (step s r k)) (clauses s) (citedCount (step s r k)) risen;
-        };
+        kind = rw kind at (kind-begins b) (omega arith);
+        size = tail .0;
+        some = tail .1;
+        cites = rises-rising (cited b) (clauses s) (citedCount b) risen;
       }
-    where
-      form-at : (h : ℕ) → 1 ≤ h → h ≤ k → Dec (h < k) → StepLayout s (step s r h)
-      form-at h l m (yes less) = step-facts s r h (before h l less) .0
-      form-at h l m (no less) =
-          let e : h ≡ k = omega arith in
-          rw e (step-layout s (step s r k) k form)
 
-  module _ (N P : ℕ) (four : isOfIndependent N ≡ true) where
-    -- such a finding is not what is told
-    not-plain : (f : Finding) → Plain f → f ≡ Fault N P → ⊥
-    not-plain f plain e = clash four (fault-has (λ N P. isOfIndependent N ≡ false) f plain e)
+  independent-reached : (N k : ℕ) → isOfIndependent N ≡ true → finding s r ≡ Fault N k
+      → Reached s r k × CitesClauses s (step s r k) × RefusedBy s (step s r k) N
+  independent-reached N k four e =
+      let f = finding-kind s r N k (of-kind N four) e in
+      let (kind, refused) = kind-found N k k (kindOf (step s r k)) four (f .found) in
+      (f .reached, citing-by k (f .form) (f .cites) kind, refused)
 
-    skip : (f g : Finding) → Plain f → f then g ≡ Fault N P → IsFine f × (g ≡ Fault N P)
-    skip f g plain e = elim (then-found f g N P e) [ inl q ↦ absurd (not-plain f plain q) | inr q ↦ q ]
-
-    stay : (f g : Finding) → Plain g → f then g ≡ Fault N P → f ≡ Fault N P
-    stay f g plain e = elim (then-found f g N P e) [ inl q ↦ q | inr q ↦ absurd (not-plain g plain (q .1)) ]
-
-    kind-found : (k : ℕ) (K : Kind) → kindFinding K s r k ≡ Fault N P
-        → (K ≡ IndependentSet) × (P ≡ k) × RefusedBy s (step s r k) N
-    unfolding kindFinding copyFinding costBound resolutionFinding pivotFinding resolventFinding lesserBound
-    kind-found k Copy e = absurd (not-plain _ (search plain) e)
-    kind-found k Cost e = absurd (not-plain _ (search plain) e)
-    kind-found k IndependentSet e =
-        let (place, refused) = set-refused s (step s r k) k N P .0 e in
-        (refl, place, refused)
-    kind-found k Resolvent e = absurd (not-plain _ (search plain depth 12) e)
-    kind-found k Unknown e = absurd (not-fine e)
-
-    -- the form of step k and what it cites are fine, it is of kind 3, and this is what it is refused by
-    step-found : (k : ℕ) → stepFinding s r k ≡ Fault N P
-        → IsFine (stepForm s (step s r k) k) × IsFine (citation s (step s r k) k)
-        × (kindOf (step s r k) ≡ IndependentSet) × (P ≡ k) × RefusedBy s (step s r k) N
-    unfolding stepFinding
-    step-found k e =
-        let b = step s r k in
-        let (form, after-form) = skip (stepForm s b k) _ (form-plain b k) e in
-        let (cites, after-cites) = skip (citation s b k) _ (citation-plain b k) after-form in
-        let (kind, place, first) = kind-found k (kindOf b) after-cites in
-        (form, cites, kind, place, first)
-
-    finding-reached : finding s r ≡ Fault N P → Reached s r P × RefusedBy s (step s r P) N
-    unfolding finding
-    finding-reached e =
-        let (size, after-size) = skip (oversize s r) _ oversize-plain e in
-        let (sheet, after-sheet) = skip (sheetFinding s) _ sheet-plain after-size in
-        let (layout, after-layout) = skip (recordFinding s r) _ record-plain after-sheet in
-        let (plan, after-plan) = skip (assignmentFinding s r) _ assignment-plain after-layout in
-        let (k, w, before, here) = over-found (stepFinding s r) (steps r) N P (stay _ (close s r) close-plain after-plan) in
-        let (form, cites, kind, place, first) = step-found k here in
-        rw place (reached-by size sheet layout plan k w before form cites kind, first)
-
-  reached-finding : (N k : ℕ) → Reached s r k → RefusedBy s (step s r k) N → finding s r ≡ Fault N k
-  unfolding finding stepFinding citation citesFine kindFinding
-  reached-finding N k h first =
-      rw (
-        fine-is (oversize s r) (facts-oversize s r (h .sheet .size, h .layout .size)),
-        fine-is (sheetFinding s) (valid-sheet s (h .sheet)),
-        fine-is (recordFinding s r) (layout-record s r (h .layout)),
-        fine-is (assignmentFinding s r) (model-assignment s r (h .model) (h .cost-is)),
-        found-over (stepFinding s r) (steps r) (Fault N k) refl (k, h .among, earlier, here),
-      )
-    where
-      earlier : (g : ℕ) → 1 ≤ g → g < k → IsFine (stepFinding s r g)
-      earlier g l m = facts-step s r g (h .sheet .lists) (h .forms g l (omega arith)) (h .inferences g l m)
-
-      kind : kindOf (step s r k) ≡ IndependentSet
-      kind = begins-kind IndependentSet (step s r k) (omega arith) (h .citing .kind)
-
-      form : stepForm s (step s r k) k ≡ Fine
-      form =
-          fine-is (stepForm s (step s r k) k)
-          (layout-form s (step s r k) k (h .forms k (h .among .0) (omega arith)) (rw kind (facts-tail (step s r k) (h .citing .size) (h .citing .some))))
-
-      here : stepFinding s r k ≡ Fault N k
-      here =
-          let cites = rising-rises (cited (step s r k)) (clauses s) (citedCount (step s r k)) (h .citing .cites) in
-          rw (form, kind, cites, set-refused s (step s r k) k N k .1 (refl, first))
+  reached-independent : (N k : ℕ) → Reached s r k → CitesClauses s (step s r k) → RefusedBy s (step s r k) N
+      → finding s r ≡ Fault N k
+  unfolding citation citesFine kindFinding
+  reached-independent N k h citing refused =
+      let b = step s r k in
+      let kind = begins-kind IndependentSet b (omega arith) (citing .kind) in
+      kind-finding s r N k record {
+        reached = h;
+        form = layout-form s b k (h .forms k (h .among .0) (omega arith)) (rw kind (facts-tail b (citing .size) (citing .some)));
+        cites = rw (kind, rising-rises (cited b) (clauses s) (citedCount b) (citing .cites));
+        found = rw kind (set-refused s b k N k .1 (refl, refused));
+      }
 
 -- the answer is one of them at place k exactly when the clauses that step k cites are reached and it is refused by this
 pub which-independent : (s r : List ℕ) → WhichIndependent s r (judgement s r)
 unfolding judgement
 which-independent s r N k four = (
-  λ (a, b). finding-reached s r N k four (answer-fault s r (finding s r) N k (λ z. clash (rw z at four) refl) a b),
-  λ (h, first).
-      let e = reached-finding s r N k h first in
+  λ (a, b). independent-reached s r N k four (answer-fault s r (finding s r) N k (λ z. clash (rw z at four) refl) a b),
+  λ (h, citing, refused).
+      let e = reached-independent s r N k h citing refused in
       (rw e, rw e),
 )

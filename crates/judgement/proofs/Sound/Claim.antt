@@ -11,12 +11,13 @@ use Rattle.judgement.specs.Literals.{holds}
 use Rattle.judgement.specs.Sheet.{problemOf}
 use Rattle.judgement.specs.Record.{claim, steps, assigned, step}
 use Rattle.judgement.specs.Step.{literalCount, bound, literals, cited}
-use Rattle.judgement.specs.Facts.{Among, Inference, copies, costs, independent, resolution, Acceptable}
+use Rattle.judgement.specs.Facts.{Among, Inference, copies, costs, independent, resolution, linear, Acceptable}
 use Rattle.judgement.specs.Demands.{IsBytes}
 use Rattle.judgement.proofs.Laws.Membership.{holds-in}
 use Rattle.judgement.proofs.Laws.Truth.{model-or-breaks}
 use Rattle.judgement.proofs.Laws.Cost.{cost-below-none}
 use Rattle.judgement.proofs.Sound.Entail.{stated, copy-entailed, cost-entailed, independent-entailed, resolution-entailed}
+use Rattle.judgement.proofs.Sound.Weighing.{linear-entailed}
 
 -- ---- every step
 
@@ -35,6 +36,7 @@ inferred s r facts k w (resolution f) earlier =
     let from-x = earlier x (f .some-x) (f .earlier-x) in
     let from-y = earlier y (f .some-y) (f .earlier-y) in
     resolution-entailed (problemOf s) (step s r x) (step s r y) (step s r k) (f .resolves) from-x from-y
+inferred s r facts k w (linear f) earlier = linear-entailed s (step s r k) (facts .sheet) f
 
 -- the steps below `top`, each from earlier ones
 entailed-below : (s r : List ℕ) → Acceptable s r → (top k : ℕ) → k < top → Among (steps r) k → StepEntailed s r k

@@ -1,0 +1,12 @@
+use Rattle.checker.proofs.Bits.{less-read, zero-read}
+use Rattle.checker.proofs.signed.negative_part.Statement.{statement}
+use Rattle.checker.proofs.signed.negative_part.Tie as tie
+
+returns : tie.Need-returns
+returns c = less-read (c .before .args .x) (c .before .fits .x) (c .if1 .taken)
+
+returns-2 : tie.Need-returns-2
+returns-2 c = zero-read (c .before .args .x) (c .before .fits .x) (c .if1 .left)
+
+pub negative-part-spec : {M : Type 1} → statement M
+negative-part-spec = tie.close (tie.spec returns returns-2)

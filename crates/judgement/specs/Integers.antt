@@ -1,0 +1,26 @@
+-- Whole numbers that may lie below zero: sums of them, and division that rounds up.
+-- Assumes nothing.
+use Prim.Native.Nat.{ℕ, zero, suc, _+_, _-_, _*_, _/_}
+use mathlib.Core.Path.{_≡_}
+use mathlib.Core.Logic.{_⊎_}
+use lib.IntN.{ℤ, pos, negsuc, _+ℤ_}
+use lib.Signed.{_≤ℤ_, _<ℤ_}
+
+unfoldable pub sumOfℤ : (ℕ → ℤ) → ℕ → ℤ
+sumOfℤ f zero = pos 0
+sumOfℤ f (suc n) = sumOfℤ f n +ℤ f (suc n)
+
+-- z where it is negative, else 0
+abbrev pub negativePart : ℤ → ℤ
+negativePart (pos n) = pos 0
+negativePart (negsuc n) = negsuc n
+
+-- z divided by d, rounded up; 0 where z is not positive
+abbrev pub roundedUp : ℤ → ℕ → ℕ
+roundedUp (pos n) d = (n + (d - 1)) / d
+roundedUp (negsuc n) d = 0
+
+-- x is the least number whose d-fold is not below z
+pub record LeastCover (z : ℤ) (d x : ℕ) : Type 0 where
+  pub covers : z ≤ℤ pos (d * x)
+  pub least : (x ≡ 0) ⊎ (pos (d * (x - 1)) <ℤ z)
