@@ -80,7 +80,7 @@ fn check_claimed_cost(sheet: &Sheet, record: &Record) -> Result<(), Refusal> {
     Ok(())
 }
 
-/// Refusals 8, 9, 12 to 18 and 20 to 22: all of one step's before the next step's.
+/// Refusals 8, 9, 12 to 18 and 20 to 24: all of one step's before the next step's.
 fn check_steps(sheet: &Sheet, record: &Record) -> Result<Vec<CostClause>, Refusal> {
     let mut derived = Vec::new();
     for step_number in 1..=record.steps.count() {

@@ -1,4 +1,4 @@
-//! The reference checker: document 01, with change 1 of document 02, in the plainest Rust there is.
+//! The reference checker: document 01, with changes 1 and 2 of document 02, in the plainest Rust there is.
 //!
 //! It exists to be compared with the proved checker, so it shares nothing with it and prefers sets, copies and
 //! wide numbers to speed. Each function is meant to be held beside one row of document 01's refusal table,
@@ -15,6 +15,7 @@
 //! | cost clause (001, definition 2) | statement |
 //! | independent set (001, 5.1.1) | kind 3 |
 //! | cost resolution (001, definition 8) | kind 4 |
+//! | weighted clauses (001, 5.1.2) | kind 5 |
 
 #![forbid(unsafe_code)]
 #![warn(missing_docs)]
@@ -32,6 +33,7 @@ mod resolution;
 mod sheet;
 mod show;
 mod steps;
+mod weighted;
 
 pub use judge::{judge, oversize, sheet_is_valid};
 pub use show::{line, show};

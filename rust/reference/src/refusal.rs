@@ -35,3 +35,5 @@ pub(crate) const CLOSE: u32 = 19;
 pub(crate) const UNSETTLED_SHUT: u32 = 20;
 pub(crate) const ALL_SETTLED: u32 = 21;
 pub(crate) const SHARED_PADDLE: u32 = 22;
+pub(crate) const WEIGHTS: u32 = 23;
+pub(crate) const LINEAR_BOUND: u32 = 24;

@@ -1,4 +1,4 @@
-//! One step: its form, its citations, and the numbers of its kind (refusals 8, 9, 12 to 18 and 20 to 22).
+//! One step: its form, its citations, and the numbers of its kind (refusals 8, 9, 12 to 18 and 20 to 24).
 
 use crate::cost_clause::CostClause;
 use crate::independent;
@@ -7,6 +7,7 @@ use crate::literal::{read_literals, Literal};
 use crate::refusal::{CITATION, COPY, COST_BOUND, STEP_FORM};
 use crate::resolution;
 use crate::sheet::Sheet;
+use crate::weighted::{self, Entry, DIVISOR_SIZE, ENTRY_SIZE};
 use crate::NONE;
 use std::collections::BTreeSet;
 
@@ -20,6 +21,8 @@ pub(crate) enum Inference {
     IndependentSet(Vec<u64>),
     /// Kind 4: two steps, by their numbers (a holds the pivot positive, b negative), and the pivot.
     Resolution { a: u64, b: u64, pivot: u32 },
+    /// Kind 5: a divisor, and clauses of the sheet with their weights.
+    WeightedClauses { divisor: u64, entries: Vec<Entry> },
 }
 
 /// A step body, read. `literal_bytes` is the part of it that holds the literals.
@@ -79,8 +82,22 @@ fn read_inference(kind: u8, tail: &[u8]) -> Option<Inference> {
             b: number(&tail[4..8]),
             pivot: number(&tail[8..10]) as u32,
         }),
+        (5, _) => read_weighted(tail),
         _ => None,
     }
+}
+
+/// A tail of kind 5, which has one entry at least.
+fn read_weighted(tail: &[u8]) -> Option<Inference> {
+    let divisor = tail.get(..DIVISOR_SIZE)?;
+    let entries = &tail[DIVISOR_SIZE..];
+    if entries.is_empty() || !entries.len().is_multiple_of(ENTRY_SIZE) {
+        return None;
+    }
+    Some(Inference::WeightedClauses {
+        divisor: number(divisor),
+        entries: entries.chunks_exact(ENTRY_SIZE).map(Entry::read).collect(),
+    })
 }
 
 /// Refusal 9 does not apply: clauses are cited from 1 to m and, in a list, rising strictly; steps from 1 to the
@@ -88,18 +105,23 @@ fn read_inference(kind: u8, tail: &[u8]) -> Option<Inference> {
 fn citations_hold(inference: &Inference, clause_count: u64, step_number: u64) -> bool {
     let is_clause = |cited: u64| (1..=clause_count).contains(&cited);
     let is_earlier_step = |cited: u64| (1..step_number).contains(&cited);
+    let is_list = |clauses: &[u64]| {
+        let all_exist = clauses.iter().all(|clause| is_clause(*clause));
+        all_exist && clauses.windows(2).all(|two| two[0] < two[1])
+    };
     match inference {
         Inference::Clause(clause) => is_clause(*clause),
         Inference::Cost => true,
-        Inference::IndependentSet(clauses) => {
-            let all_exist = clauses.iter().all(|clause| is_clause(*clause));
-            all_exist && clauses.windows(2).all(|two| two[0] < two[1])
-        }
+        Inference::IndependentSet(clauses) => is_list(clauses),
         Inference::Resolution { a, b, .. } => is_earlier_step(*a) && is_earlier_step(*b),
+        Inference::WeightedClauses { entries, .. } => {
+            let clauses: Vec<u64> = entries.iter().map(|entry| entry.clause).collect();
+            is_list(&clauses)
+        }
     }
 }
 
-/// Refusals 12 to 18 and 20 to 22: those of the step's own kind, in the order of the kind.
+/// Refusals 12 to 18 and 20 to 24: those of the step's own kind, in the order of the kind.
 fn check_inference(sheet: &Sheet, earlier: &[CostClause], step: &Step) -> Result<(), u32> {
     let conclusion = &step.cost_clause;
     match &step.inference {
@@ -109,6 +131,9 @@ fn check_inference(sheet: &Sheet, earlier: &[CostClause], step: &Step) -> Result
         Inference::Resolution { a, b, pivot } => {
             let premise = |cited: &u64| &earlier[*cited as usize - 1];
             resolution::check(premise(a), premise(b), *pivot, conclusion)
+        }
+        Inference::WeightedClauses { divisor, entries } => {
+            weighted::check(sheet, *divisor, entries, conclusion)
         }
     }
 }

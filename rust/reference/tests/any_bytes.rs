@@ -9,7 +9,7 @@ use std::collections::BTreeSet;
 
 /// What document 01 says of every answer, whatever the files.
 fn check_shape(sheet: &[u8], record: &[u8], answer: &Answer) {
-    assert!(answer.number <= 22);
+    assert!(answer.number <= 24);
     assert_eq!(sheet_is_valid(sheet), !(1..=4).contains(&answer.number));
     if answer.number == 0 {
         assert!(within_reach(sheet) && confirms(sheet, record, answer));
@@ -54,22 +54,32 @@ fn met_by_one_byte(sheet: &[u8], record: &[u8]) -> BTreeSet<u32> {
 }
 
 /// Of the numbers of kind 3 there is 21 alone: one byte makes a step of kind 3 from a copy of a clause, and a copy
-/// settles every variable of its clause. The rest are case C's, but for 1, which takes files of 4 GiB.
+/// settles every variable of its clause. No tail here has a length that kind 5 has. The rest are case C's and example
+/// 3's, but for 1, which takes files of 4 GiB.
 #[test]
 fn every_byte_of_case_a_set_to_every_value() {
     let met = met_by_one_byte(&sheet_a(), &record_a());
-    let never = [1, 14, 15, 19, 20, 22];
-    let expected: BTreeSet<u32> = (0..=22).filter(|n| !never.contains(n)).collect();
+    let never = [1, 14, 15, 19, 20, 22, 23, 24];
+    let expected: BTreeSet<u32> = (0..=24).filter(|n| !never.contains(n)).collect();
     assert_eq!(met, expected);
 }
 
 /// One step of kind 3 that does not close, so there is no acceptance and no number of another kind. One byte does
-/// not settle all variables of a cited clause, so there is no 21.
+/// not settle all variables of a cited clause, so there is no 21; and read as kind 5, the tail cites a clause beyond
+/// the last, so there is neither 23 nor 24.
 #[test]
 fn every_byte_of_case_c1_set_to_every_value() {
     let met = met_by_one_byte(&sheet_c(), &record_c1());
-    let never = [0, 1, 12, 13, 16, 17, 18, 21];
-    let expected: BTreeSet<u32> = (0..=22).filter(|n| !never.contains(n)).collect();
+    let never = [0, 1, 12, 13, 16, 17, 18, 21, 23, 24];
+    let expected: BTreeSet<u32> = (0..=24).filter(|n| !never.contains(n)).collect();
+    assert_eq!(met, expected);
+}
+
+/// One step of kind 5 that does not close. Of the numbers of the kinds there are its own alone.
+#[test]
+fn every_byte_of_example_3_set_to_every_value() {
+    let met = met_by_one_byte(&sheet_c(), &record_c(example_3(11)));
+    let expected = BTreeSet::from([2, 3, 4, 5, 6, 7, 8, 9, 10, 11, 19, 23, 24]);
     assert_eq!(met, expected);
 }
 
@@ -144,4 +154,16 @@ fn random_step_bodies_of_kinds_1_and_3() {
     ];
     let met = met_by_random_bodies(&sheet_c(), 1, &whole);
     assert_eq!(met, BTreeSet::from([0, 8, 9, 12, 14, 15, 20, 21, 22]));
+}
+
+/// The same with weights: example 3's step, and one that closes at 1. 21 is again that of a copy read as kind 3.
+#[test]
+fn random_step_bodies_of_kinds_1_and_5() {
+    let whole = [
+        clause_step(CLAUSES_C[0], 1),
+        example_3(11),
+        weighted_step(&[], 1, 1, &[(1, 1)]),
+    ];
+    let met = met_by_random_bodies(&sheet_c(), 1, &whole);
+    assert_eq!(met, BTreeSet::from([0, 8, 9, 12, 21, 23, 24]));
 }

@@ -19,5 +19,5 @@ fn every_example_gives_its_line() {
         assert_eq!(printed.as_bytes(), wanted, "{}", folder.display());
         judged += 1;
     }
-    assert_eq!(judged, 16, "A1 to A8, B1, B2, C1 to C4, D and E");
+    assert_eq!(judged, 18, "A1 to A8, B1, B2, C1 to C4, D, E, W1 and W2");
 }

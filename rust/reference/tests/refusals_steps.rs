@@ -1,4 +1,4 @@
-//! Refusals 8, 9, 12, 13 and 16 to 19: the steps, but for independent sets.
+//! Refusals 8, 9, 12, 13 and 16 to 19: the steps, but for independent sets and weighted clauses.
 
 mod common;
 
@@ -56,8 +56,8 @@ fn refusal_8_more_literals_than_the_body_holds() {
 
 #[test]
 fn refusal_8_kind_unknown() {
-    for kind in [0, 5, 6, 255] {
-        for tail_length in [0, 4, 8, 10] {
+    for kind in [0, 6, 7, 133, 255] {
+        for tail_length in [0, 4, 8, 10, 14] {
             assert_step(step(kind, &[], 0, &vec![0; tail_length]), (8, 1));
         }
     }
@@ -89,16 +89,22 @@ fn refusal_8_literals_not_rising() {
     assert_step(cost_step(&[n1, n2], 8), PASSES);
 }
 
-/// For each kind, tails of 0 to 13 bytes, all zero: refusal 9 says that the length was right.
+/// For each kind, tails of 0 to 20 bytes, all zero: refusal 9 says that the length was right.
 #[test]
 fn refusal_8_tail_of_the_wrong_length() {
-    for (kind, right) in [(1, vec![4]), (3, vec![4, 8, 12]), (4, vec![10])] {
-        for length in 0..=13 {
+    let right_lengths = [
+        (1, vec![4]),
+        (3, vec![4, 8, 12, 16, 20]),
+        (4, vec![10]),
+        (5, vec![8, 14, 20]),
+    ];
+    for (kind, right) in right_lengths {
+        for length in 0..=20 {
             let number = if right.contains(&length) { 9 } else { 8 };
             assert_step(step(kind, &[], 0, &vec![0; length]), (number, 1));
         }
     }
-    for length in 1..=13 {
+    for length in 1..=20 {
         assert_step(step(2, &[], 0, &vec![0; length]), (8, 1));
     }
 }
@@ -136,6 +142,8 @@ fn refusal_9_a_sheet_without_clauses_has_none_to_cite() {
     for clause in [0, 1, 2] {
         assert_eq!(judged(clause_step(&[], clause)), refused(9, 1));
         assert_eq!(judged(independent_step(&[], 0, &[clause])), refused(9, 1));
+        let weighted = weighted_step(&[], 0, 1, &[(clause, 1)]);
+        assert_eq!(judged(weighted), refused(9, 1));
     }
 }
 

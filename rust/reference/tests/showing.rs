@@ -48,6 +48,22 @@ fn kind_3_shows_the_literals_in_the_step() {
     assert_part(show(&sheet, &record, 2), &record, 59..59);
 }
 
+/// A divisor is as long as a literal and follows the last of them; the part ends before it.
+#[test]
+fn kind_5_shows_the_literals_in_the_step() {
+    let sheet = sheet(&[1, 2, 4], &[&[pos(2), pos(3)], &[pos(1)]]);
+    let steps = [
+        weighted_step(&[pos(3)], 2, 1, &[(1, 2)]),
+        weighted_step(&[], 3, 1, &[(1, 2), (2, 1)]),
+    ];
+    let record = record(3, &[0b011], &steps);
+    assert_eq!(judge(&sheet, &record), accepted(3, 2, 2));
+    assert_part(show(&sheet, &record, 1), &record, 41..43);
+    assert_eq!(show(&sheet, &record, 1), two_bytes(&[pos(3)]));
+    // The second body starts at 51: its literals would stand before the divisor.
+    assert_part(show(&sheet, &record, 2), &record, 63..63);
+}
+
 /// The sheet's clauses stand in another order than the steps that copy them.
 #[test]
 fn kind_1_shows_the_clause_that_it_cites() {

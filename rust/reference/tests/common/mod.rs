@@ -104,6 +104,16 @@ pub fn resolution_step(codes: &[u16], bound: u64, a: u32, b: u32, pivot: u16) ->
     step(4, codes, bound, &tail)
 }
 
+/// Kind 5. An entry is a clause and its weight.
+pub fn weighted_step(codes: &[u16], bound: u64, divisor: u16, entries: &[(u32, u16)]) -> Vec<u8> {
+    let mut tail = two_bytes(&[divisor]);
+    for (clause, weight) in entries {
+        tail.extend(four_bytes(&[*clause]));
+        tail.extend(two_bytes(&[*weight]));
+    }
+    step(5, codes, bound, &tail)
+}
+
 /// An acceptance.
 pub fn accepted(cost: u64, open_count: u64, step_count: u64) -> Answer {
     Answer {
@@ -189,6 +199,11 @@ pub fn record_c(only_step: Vec<u8>) -> Vec<u8> {
 /// Case C1: the step is in order and does not close.
 pub fn record_c1() -> Vec<u8> {
     record_c(independent_step(&[pos(5), neg(6)], 9, &[1, 2]))
+}
+
+/// The step of document 001's example 3, on case C's sheet, where document 02 gives it the bound 11.
+pub fn example_3(bound: u64) -> Vec<u8> {
+    weighted_step(&[pos(5), neg(6)], bound, 1, &[(1, 3), (2, 4), (3, 2)])
 }
 
 /// The clauses of case D, document 001's section 3.2.
