@@ -4,8 +4,10 @@
 use compare::{hex, judge};
 use planner::padding::Mix;
 use proved::show;
+use samples::draft::{overwrite, read_u32, read_u64};
 use samples::examples::{examples, Example};
-use samples::{Sample, NUMBERS};
+use samples::weights::largest;
+use samples::{long_with_weights, Sample, NUMBERS};
 
 /// How many samples are compared, unless COMPARE_COUNT says otherwise; from which seed, unless COMPARE_SEED does.
 const COUNT: usize = 200_000;
@@ -100,15 +102,19 @@ fn on_longer_records() {
         (3, 1_000_000, Mix::Mixed),
         (6, 1_000_000, Mix::Long),
     ] {
-        let sample = samples::long(seed, size, mix);
-        assert_eq!(same(&sample.sheet, &sample.record, "long"), 0);
-        let mut damaged = sample.record.clone();
-        let middle = damaged.len() / 2;
-        for place in [middle, damaged.len() - 9, damaged.len() - 1] {
-            damaged[place] ^= 1;
-            same(&sample.sheet, &damaged, "long, one bit changed");
-            damaged[place] ^= 1;
-        }
+        on_a_longer_record(samples::long(seed, size, mix));
+    }
+    on_a_longer_record(long_with_weights(8, 300_000));
+}
+
+fn on_a_longer_record(sample: Sample) {
+    assert_eq!(same(&sample.sheet, &sample.record, "long"), 0);
+    let mut damaged = sample.record.clone();
+    let middle = damaged.len() / 2;
+    for place in [middle, damaged.len() - 9, damaged.len() - 1] {
+        damaged[place] ^= 1;
+        same(&sample.sheet, &damaged, "long, one bit changed");
+        damaged[place] ^= 1;
     }
 }
 
@@ -117,8 +123,13 @@ fn on_longer_records() {
 fn on_longer_records_with_one_byte_changed() {
     const CHANGES: usize = 2_000;
     let mut met = [0usize; NUMBERS];
-    for (seed, mix) in [(4, Mix::Mixed), (5, Mix::Resolution), (7, Mix::Long)] {
-        let Sample { sheet, record, .. } = samples::long(seed, 50_000, mix);
+    let mixes = [(4, Mix::Mixed), (5, Mix::Resolution), (5, Mix::Long)];
+    let mut long = mixes
+        .map(|(seed, mix)| samples::long(seed, 50_000, mix))
+        .to_vec();
+    // Shorter, because the reference checker takes its time over weights.
+    long.push(long_with_weights(12, 12_000));
+    for Sample { sheet, record, .. } in long {
         let mut changed = record.clone();
         for i in 0..CHANGES {
             // All over the record, and each bit in turn.
@@ -129,10 +140,47 @@ fn on_longer_records_with_one_byte_changed() {
         }
     }
     println!("{CHANGES} changes of each record, by number {met:?}");
-    // One bit seldom takes a clause's last unsettled variable or frees one that two share: 21 and 22 are met once each.
-    for number in [7, 8, 9, 12, 13, 14, 15, 16, 17, 18, 20, 21, 22] {
+    // One bit seldom takes a clause's last unsettled variable, frees one that two share, or makes a weight 0: 21, 22 and 23
+    // are met once or a few times.
+    for number in [7, 8, 9, 12, 13, 14, 15, 16, 17, 18, 20, 21, 22, 23, 24] {
         assert!(met[number] > 0, "no change met {number}");
     }
+}
+
+/// Sums of weights that are as large as can be. With the longest clauses the reference checker would take seconds for each
+/// record, so there the proved one is held to what is known of them.
+#[test]
+fn on_largest_weights() {
+    for Sample {
+        sheet,
+        record,
+        aimed,
+    } in largest::samples(4)
+    {
+        assert_eq!(same(&sheet, &record, aimed), 0);
+    }
+    for sample in largest::samples(1_024) {
+        let Sample { sheet, record, .. } = sample;
+        let answer = judge(&sheet, &record);
+        assert_eq!((answer.number, answer.step_count), (0, 2));
+        for (step, more) in [(1, 1), (1, -1), (2, 1)] {
+            let Some(changed) = with_other_bound(&record, step, more) else {
+                continue;
+            };
+            let answer = judge(&sheet, &changed);
+            assert_eq!((answer.number, answer.place), (24, step));
+        }
+    }
+}
+
+/// The record with more or less in a step's bound; nothing where that is below 0. There are 1,024 variables.
+fn with_other_bound(record: &[u8], step: u64, more: i64) -> Option<Vec<u8>> {
+    let pair = 12 + 128 + 8 * (step as usize - 1);
+    let place = read_u32(record, pair)? as usize + 4;
+    let bound = read_u64(record, place)?.checked_add_signed(more)?;
+    let mut changed = record.to_vec();
+    overwrite(&mut changed, place, &bound.to_le_bytes())?;
+    Some(changed)
 }
 
 #[test]

@@ -6,6 +6,7 @@ mod blind;
 mod forms;
 mod heads;
 mod independence;
+mod linear;
 mod order;
 mod pairs;
 mod plans;
@@ -14,6 +15,7 @@ mod statements;
 
 use crate::draft::{code_bytes, codes, Body, Draft, Files, Table};
 use crate::random::Random;
+use linear::order::Faults;
 use order::{Bound, Clauses};
 
 /// How a fault is made; nothing comes back when it does not apply to these files.
@@ -31,6 +33,8 @@ pub enum Way {
     Files(fn(&mut Files, &mut Random) -> Option<()>),
     /// Has a step of kind 3 cite clauses made for it.
     Cite(Clauses, Bound),
+    /// Makes these faults in steps of kind 5.
+    Weigh(Faults),
 }
 
 #[derive(Clone, Copy)]
@@ -51,7 +55,7 @@ impl Damage {
 }
 
 /// Every fault with an aim, in groups.
-pub const AIMED: [&[Damage]; 8] = [
+pub const AIMED: [&[Damage]; 12] = [
     heads::HEADS,
     pairs::PAIRS,
     forms::FORMS,
@@ -60,6 +64,10 @@ pub const AIMED: [&[Damage]; 8] = [
     independence::INDEPENDENCE,
     order::ORDER,
     resolutions::RESOLUTIONS,
+    linear::LINEAR,
+    linear::bounds::BOUNDS,
+    linear::order::LINEAR_ORDER,
+    linear::records::RECORDS,
 ];
 
 /// The same, one by one.
@@ -124,6 +132,7 @@ fn to_draft(way: Way, draft: &mut Draft, random: &mut Random) -> Option<()> {
             Some(())
         }
         Way::Cite(clauses, bound) => order::cite(clauses, bound, draft, random),
+        Way::Weigh(faults) => linear::order::weigh(faults, draft, random),
         Way::SheetPairs(_) | Way::RecordPairs(_) | Way::Files(_) => None,
     }
 }

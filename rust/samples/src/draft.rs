@@ -191,19 +191,36 @@ impl Draft {
 
     /// Puts a step before the one at this place and moves the citations behind it along.
     pub fn insert(&mut self, place: usize, body: Vec<u8>) {
-        for step in &mut self.steps {
-            if let Some(mut read) = Body::read(step).filter(|read| read.kind == 4) {
-                for part in 0..2 {
-                    let cited = read.citation(part).unwrap_or(0);
-                    if cited as usize > place {
-                        read.cite(part, cited.saturating_add(1));
-                    }
-                }
-                *step = read.bytes();
-            }
-        }
-        self.steps.insert(place, body);
+        self.insert_all(vec![(place, body)]);
     }
+
+    /// Puts each of the steps before the one at its place, and moves the citations along. The places do not fall.
+    pub fn insert_all(&mut self, fresh: Vec<(usize, Vec<u8>)>) {
+        let places: Vec<usize> = fresh.iter().map(|(place, _)| *place).collect();
+        let mut fresh = fresh.into_iter().peekable();
+        let mut merged = Vec::with_capacity(self.steps.len() + places.len());
+        for (place, step) in std::mem::take(&mut self.steps).into_iter().enumerate() {
+            while let Some((_, body)) = fresh.next_if(|(before, _)| *before <= place) {
+                merged.push(body);
+            }
+            merged.push(moved(step, &places));
+        }
+        merged.extend(fresh.map(|(_, body)| body));
+        self.steps = merged;
+    }
+}
+
+/// The same step after others have come before those at these places.
+fn moved(step: Vec<u8>, places: &[usize]) -> Vec<u8> {
+    let Some(mut read) = Body::read(&step).filter(|read| read.kind == 4) else {
+        return step;
+    };
+    for part in 0..2 {
+        let cited = read.citation(part).unwrap_or(0);
+        let before = places.partition_point(|place| *place < cited as usize);
+        read.cite(part, cited.saturating_add(before as u32));
+    }
+    read.bytes()
 }
 
 impl Body {

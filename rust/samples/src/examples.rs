@@ -1,4 +1,4 @@
-//! The repository's examples/: the two files of each plan of document 01, and the line that is printed for them.
+//! The repository's examples/: the two files of each plan, and the line that is printed for them.
 
 use std::fs;
 use std::path::{Path, PathBuf};
@@ -12,8 +12,8 @@ pub struct Example {
     pub line: String,
 }
 
-/// A1 to A8, B1, B2, C1 to C4, D and E.
-pub const COUNT: usize = 16;
+/// A1 to A8, B1, B2, C1 to C4, D and E of document 01, W1 and W2.
+pub const COUNT: usize = 18;
 
 /// Every example; there are as many as there have to be.
 pub fn examples() -> [Example; COUNT] {

@@ -7,6 +7,7 @@ pub mod draft;
 pub mod examples;
 pub mod random;
 pub mod sheets;
+pub mod weights;
 
 use damage::Damage;
 use draft::{Draft, Files};
@@ -15,7 +16,7 @@ use planner::{format, long, search, tree, Plan, Problem};
 use random::Random;
 
 /// How many numbers an answer may have: 0 and those of the refusals.
-pub const NUMBERS: usize = 23;
+pub const NUMBERS: usize = 25;
 
 #[derive(Clone, Debug, PartialEq, Eq)]
 pub struct Sample {
@@ -49,9 +50,10 @@ pub fn stream(seed: u64) -> impl Iterator<Item = Sample> {
 /// A valid sample whose record has about `size` bytes.
 pub fn long(seed: u64, size: usize, mix: Mix) -> Sample {
     let mut random = Random::new(seed);
-    let problem = match mix {
-        Mix::Mixed | Mix::Resolution => sheets::roomy(&mut random),
-        Mix::Long | Mix::LongOf(_) => sheets::lengthy(&mut random),
+    let problem = if matches!(mix, Mix::Long | Mix::LongOf(_)) {
+        sheets::lengthy(&mut random)
+    } else {
+        sheets::roomy(&mut random)
     };
     let plan = search::plan(&problem);
     let record = long::record(&problem, &plan, seed, size, mix);
@@ -60,6 +62,22 @@ pub fn long(seed: u64, size: usize, mix: Mix) -> Sample {
         record,
         aimed: "0 long",
     }
+}
+
+/// The same of all kinds, and more than half of it steps of kind 5 with weights of every sort. The sheet is smaller, since
+/// such a step may cite all of it.
+pub fn long_with_weights(seed: u64, size: usize) -> Sample {
+    let mut random = Random::new(seed);
+    let problem = sheets::middle(&mut random);
+    let plan = search::plan(&problem);
+    let record = long::record(&problem, &plan, seed, size * 2 / 5, Mix::Mixed);
+    let mut draft = drafted(&problem, &record);
+    weights::steps::fill(&mut draft, size.saturating_sub(record.len()), &mut random);
+    Sample::new(draft.files(), "0 long with weights")
+}
+
+fn drafted(problem: &Problem, record: &[u8]) -> Draft {
+    Draft::new(problem, record).expect("the planner's records are well formed")
 }
 
 /// Planning takes longer than damaging, so that one plan serves for many samples.
@@ -104,7 +122,9 @@ impl Stream {
         // Steps that the plan does not need bring every kind into every record.
         let size = plan.record().len() + self.random.below(800);
         let record = long::record(&problem, &plan, self.random.next_u64(), size, Mix::Mixed);
-        Draft::new(&problem, &record).expect("the planner's records are well formed")
+        let mut draft = drafted(&problem, &record);
+        weights::steps::join(&mut draft, &mut self.random);
+        draft
     }
 
     fn plan(&mut self, problem: &Problem) -> Plan {

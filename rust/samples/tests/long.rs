@@ -2,17 +2,17 @@
 
 use planner::padding::{Kind, Mix};
 use samples::draft::read_u32;
-use samples::{long, Sample};
+use samples::{long, long_with_weights, Sample};
 
 const SIZE: usize = 1_000_000;
 
 /// How many steps there are of each kind, and of all; and of how many literals the shortest step and the longest, but for
 /// the last, which has none.
-fn kinds(sample: &Sample) -> ([usize; 5], usize, [usize; 2]) {
+fn kinds(sample: &Sample) -> ([usize; 6], usize, [usize; 2]) {
     let variables = usize::from(u16::from_le_bytes([sample.sheet[0], sample.sheet[1]]));
     let count = read_u32(&sample.record, 8).unwrap() as usize;
     let start = 12 + variables.div_ceil(8);
-    let mut kinds = [0; 5];
+    let mut kinds = [0; 6];
     let mut lengths = Vec::new();
     for step in 0..count {
         let offset = read_u32(&sample.record, start + 8 * step).unwrap() as usize;
@@ -53,7 +53,7 @@ fn long_records_are_accepted() {
         match mix {
             Mix::Mixed => assert!(kinds[1..].iter().all(|of_kind| 20 * of_kind > count)),
             Mix::Resolution => assert!(kinds[4] * 10 > count * 9),
-            Mix::Long => assert!(kinds[1..]
+            Mix::Long => assert!(kinds[1..=4]
                 .iter()
                 .all(|of_kind| (count * 23..count * 27).contains(&(100 * of_kind)))),
             Mix::LongOf(kind) => assert!(kinds[kind as usize + 1] * 10 > count * 9),
@@ -65,6 +65,23 @@ fn long_records_are_accepted() {
 }
 
 #[test]
+fn long_records_with_weights_are_accepted() {
+    let sample = long_with_weights(11, SIZE);
+    let answer = reference::judge(&sample.sheet, &sample.record);
+    let (kinds, count, _) = kinds(&sample);
+    println!(
+        "{} bytes, {count} steps, {:?}",
+        sample.record.len(),
+        &kinds[1..]
+    );
+    assert_eq!((answer.number, answer.step_count), (0, count as u64));
+    assert!(kinds[1..].iter().all(|of_kind| 50 * of_kind > count));
+    assert!(sample.record.len() >= SIZE && sample.record.len() < SIZE + 2_000);
+}
+
+#[test]
 fn same_seed_same_long_record() {
     assert_eq!(long(7, 200_000, Mix::Mixed), long(7, 200_000, Mix::Mixed));
+    let weighted = || long_with_weights(7, 200_000);
+    assert_eq!(weighted(), weighted());
 }

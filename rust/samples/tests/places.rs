@@ -7,6 +7,7 @@ use reference::Answer;
 use samples::damage::{self, Damage, Way};
 use samples::draft::{codes, read_u32, Draft, Files, Table};
 use samples::random::Random;
+use samples::weights::KIND;
 use std::collections::BTreeSet;
 
 /// The pair that misses its offset, else the last one if the end of the file is missed.
@@ -30,9 +31,11 @@ fn first_broken(draft: &Draft) -> u64 {
     broken.unwrap() as u64 + 1
 }
 
-/// The numbers of a cited clause's faults. They are made in a step that was good, so that nothing is told before them.
-fn is_of_a_cited_clause(number: u32) -> bool {
-    matches!(number, 14 | 20..=22)
+/// Nothing is told before such a fault, and it is never without its number: it is made in a step that was good, by 14 or a
+/// number of document 02, or in a step of kind 5. Nor is anything told of a change that keeps the record acceptable.
+fn is_certain(fault: &Damage) -> bool {
+    let by_number = matches!(fault.number(), Some(0 | 14 | 20..=24));
+    by_number || matches!(fault.way, Way::Step(KIND, _) | Way::Weigh(_))
 }
 
 /// The place that the papers give to a fault of this number; nothing where a fault has no one place.
@@ -52,7 +55,7 @@ fn expected(
         (10, _) => Some(first_broken(after)),
         (19, _) => Some(after.steps.len() as u64),
         (_, Way::Step(..) | Way::Bytes(_) | Way::StepList(_)) => changed_step(),
-        _ if is_of_a_cited_clause(number) => changed_step(),
+        _ if is_certain(fault) => changed_step(),
         _ => None,
     }
 }
@@ -70,11 +73,7 @@ fn compare(fault: Damage, draft: &Draft, random: &mut Random) -> Option<u64> {
     let answer: Answer = reference::judge(&files.sheet, &files.record);
     let aimed = fault.number()?;
     if answer.number != aimed {
-        assert!(
-            !is_of_a_cited_clause(aimed),
-            "{}: {answer:?} {files:?}",
-            fault.aimed
-        );
+        assert!(!is_certain(&fault), "{}: {answer:?} {files:?}", fault.aimed);
         return None;
     }
     let place = expected(aimed, &fault, draft, &after, &files)?;
@@ -97,8 +96,7 @@ fn faults_are_told_where_they_were_made() {
     }
     println!("{compared} places compared");
     assert!(compared > 10_000);
-    let of_clauses = |fault: &&Damage| fault.number().is_some_and(is_of_a_cited_clause);
-    for Damage { aimed, .. } in damage::all_aimed().filter(of_clauses) {
+    for Damage { aimed, .. } in damage::all_aimed().filter(|fault| is_certain(fault)) {
         assert!(met.contains(aimed), "never met: {aimed}");
     }
 }

@@ -1,10 +1,12 @@
 //! Changes made without looking at what the bytes mean.
 
 use super::independence::one_more;
+use super::linear::bounds::one_more as one_more_weighed;
 use super::statements::{literal_extra, literal_missing};
 use super::{damage, Damage, Way};
 use crate::draft::{Draft, Files};
 use crate::random::Random;
+use crate::weights::KIND;
 
 pub const BLIND: &[Damage] = &[
     damage(
@@ -58,6 +60,12 @@ pub const BLIND: &[Damage] = &[
     damage("blind cost literal", Way::Step(2, literal_extra)),
     damage("blind cost literal left out", Way::Step(2, literal_missing)),
     damage("blind clause cited", Way::Step(3, one_more)),
+    damage("blind clause weighed", Way::Step(KIND, one_more_weighed)),
+    damage("blind weighed literal", Way::Step(KIND, literal_extra)),
+    damage(
+        "blind byte among the weights",
+        Way::Step(KIND, |_, _, body, random| byte(&mut body.tail, random)),
+    ),
     damage("blind bodies exchanged", Way::Draft(exchanged)),
     damage("blind body left out", Way::Draft(left_out)),
     damage("blind body repeated", Way::Draft(repeated)),

@@ -131,12 +131,12 @@ fn literal_count(body: &mut Vec<u8>, random: &mut Random) -> Option<()> {
 }
 
 fn unknown_kind(body: &mut Vec<u8>, random: &mut Random) -> Option<()> {
-    *body.first_mut()? = *random.pick(&[0, 5, 6, 0x84, 255])?;
+    *body.first_mut()? = *random.pick(&[0, 6, 7, 0x85, 255])?;
     Some(())
 }
 
 fn other_kind(body: &mut Vec<u8>, random: &mut Random) -> Option<()> {
-    let (kind, other) = (body.first_mut()?, random.between(1, 4) as u8);
+    let (kind, other) = (body.first_mut()?, random.between(1, 5) as u8);
     (*kind != other).then(|| *kind = other)
 }
 
@@ -171,7 +171,8 @@ fn no_clause(_: &Draft, _: u32, body: &mut Body, _: &mut Random) -> Option<()> {
     Some(())
 }
 
-fn outside(draft: &Draft, random: &mut Random) -> Option<u32> {
+/// A number that no clause has, past the last.
+pub fn outside(draft: &Draft, random: &mut Random) -> Option<u32> {
     let past = draft.clauses.len() as u32 + 1;
     random
         .pick(&[past, past, past + 0x1_0000, u32::MAX])

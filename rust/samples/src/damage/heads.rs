@@ -9,7 +9,7 @@ use planner::{MOST_CLAUSES, MOST_VARIABLES, NONE};
 pub const HEADS: &[Damage] = &[
     damage(
         "0 most variables",
-        Way::Draft(|draft, _| resize_variables(draft, MOST_VARIABLES)),
+        Way::Draft(|draft, _| resize_variables(draft, MOST_VARIABLES, 1)),
     ),
     damage(
         "0 most clauses",
@@ -22,7 +22,7 @@ pub const HEADS: &[Damage] = &[
     ),
     damage(
         "2 one variable too many",
-        Way::Draft(|draft, _| resize_variables(draft, MOST_VARIABLES + 1)),
+        Way::Draft(|draft, _| resize_variables(draft, MOST_VARIABLES + 1, 1)),
     ),
     damage("2 far too many variables", Way::Draft(far_too_many)),
     damage(
@@ -45,23 +45,23 @@ pub const HEADS: &[Damage] = &[
     damage("6 bit under none", Way::Draft(bit_under_none)),
 ];
 
-/// New variables cost 1 and stand in no clause, so that a record stays what it was.
-fn resize_variables(draft: &mut Draft, count: usize) -> Option<()> {
+/// New variables stand in no clause, so that a record stays what it was.
+pub fn resize_variables(draft: &mut Draft, count: usize, cost: u32) -> Option<()> {
     if draft.variables() >= count {
         return None;
     }
-    draft.costs.resize(count, 1);
+    draft.costs.resize(count, cost);
     draft.assignment.resize(assignment_length(count), 0);
     Some(())
 }
 
 fn far_too_many(draft: &mut Draft, random: &mut Random) -> Option<()> {
     let count = *random.pick(&[1026, 1032, 2048])?;
-    resize_variables(draft, count)
+    resize_variables(draft, count, 1)
 }
 
 /// A repeated clause changes nothing.
-fn resize_clauses(draft: &mut Draft, count: usize) -> Option<()> {
+pub fn resize_clauses(draft: &mut Draft, count: usize) -> Option<()> {
     let last = draft.clauses.last()?.clone();
     draft.clauses.resize(count, last);
     Some(())
