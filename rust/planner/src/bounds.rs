@@ -34,6 +34,58 @@ pub fn independent_bound(problem: &Problem, literals: &[Literal], clauses: &[u32
     Some(bound)
 }
 
+/// What a variable has left of its cost, for each variable: the divisor times the cost, less the weights of the clauses that
+/// hold it positive, and with those of the clauses that hold it negative. Clauses are numbered from 1.
+pub fn remainders(problem: &Problem, divisor: u16, weights: &[(u32, u16)]) -> Vec<i64> {
+    let scaled = |cost: &u32| i64::from(divisor) * i64::from(*cost);
+    let mut left: Vec<i64> = problem.costs.iter().map(scaled).collect();
+    for (number, weight) in weights {
+        for literal in &problem.clauses[*number as usize - 1] {
+            let sign = if literal.is_positive() { -1 } else { 1 };
+            left[literal.index()] += sign * i64::from(*weight);
+        }
+    }
+    left
+}
+
+/// The sum of the clauses as linear constraints, each times its weight, at its least where all literals are false.
+///
+/// Below 2^58 and not below -2^38, however large the sheet and the weights are.
+pub fn linear_total(
+    problem: &Problem,
+    literals: &[Literal],
+    divisor: u16,
+    weights: &[(u32, u16)],
+) -> i64 {
+    let left = remainders(problem, divisor, weights);
+    let mut settled = vec![None; problem.variables()];
+    for literal in literals {
+        settled[literal.index()] = Some(!literal.is_positive());
+    }
+    let constant = |(number, weight): &(u32, u16)| {
+        let clause = &problem.clauses[*number as usize - 1];
+        let negative = clause.iter().filter(|held| !held.is_positive()).count();
+        i64::from(*weight) * (1 - negative as i64)
+    };
+    let least = |(left, value): (&i64, &Option<bool>)| match value {
+        Some(true) => *left,
+        Some(false) => 0,
+        None => (*left).min(0),
+    };
+    weights.iter().map(constant).sum::<i64>() + left.iter().zip(&settled).map(least).sum::<i64>()
+}
+
+/// The bound of weighted clauses where all literals are false: the total over the divisor, rounded up, and never below 0.
+pub fn linear_bound(
+    problem: &Problem,
+    literals: &[Literal],
+    divisor: u16,
+    weights: &[(u32, u16)],
+) -> u64 {
+    let total = linear_total(problem, literals, divisor, weights);
+    u64::try_from(total).map_or(0, |total| total.div_ceil(u64::from(divisor)))
+}
+
 /// Both premises without the pivot; nothing when a premise lacks its pivot literal or when the
 /// result would hold a variable both ways.
 pub fn resolvent(positive: &[Literal], negative: &[Literal], pivot: usize) -> Option<Vec<Literal>> {

@@ -1,6 +1,6 @@
 //! A certificate under construction: cost clauses, each with the reason that derives it.
 
-use crate::bounds::{cost_bound, independent_bound, resolvent};
+use crate::bounds::{cost_bound, independent_bound, linear_bound, resolvent};
 use crate::problem::{Literal, Problem, NONE};
 
 /// How a step is derived. Clauses and steps are cited by their numbers, from 1.
@@ -17,6 +17,11 @@ pub enum Reason {
         positive: u32,
         negative: u32,
         pivot: u16,
+    },
+    /// Kind 5: the sum of clauses as linear constraints, each times its weight, over the divisor. Clauses rise.
+    Linear {
+        divisor: u16,
+        weights: Vec<(u32, u16)>,
     },
 }
 
@@ -88,6 +93,23 @@ impl<'a> Certificate<'a> {
         }))
     }
 
+    /// The clauses rise, and neither a weight nor the divisor is 0.
+    pub fn linear(
+        &mut self,
+        mut literals: Vec<Literal>,
+        divisor: u16,
+        weights: Vec<(u32, u16)>,
+    ) -> u32 {
+        literals.sort_unstable();
+        let bound = linear_bound(self.problem, &literals, divisor, &weights);
+        let reason = Reason::Linear { divisor, weights };
+        self.push(Step {
+            literals,
+            bound,
+            reason,
+        })
+    }
+
     /// Resolves two earlier steps, given in either order, on the pivot variable.
     pub fn resolve(&mut self, first: u32, second: u32, pivot: usize) -> Option<u32> {
         let up = Literal::positive(pivot);
@@ -152,6 +174,7 @@ impl Reason {
             Reason::Cost => 2,
             Reason::Independent { .. } => 3,
             Reason::Resolution { .. } => 4,
+            Reason::Linear { .. } => 5,
         }
     }
 

@@ -132,5 +132,13 @@ fn tail_bytes(reason: &Reason) -> Vec<u8> {
             tail.extend_from_slice(&pivot.to_le_bytes());
             tail
         }
+        Reason::Linear { divisor, weights } => {
+            let mut tail = divisor.to_le_bytes().to_vec();
+            for (clause, weight) in weights {
+                tail.extend_from_slice(&clause.to_le_bytes());
+                tail.extend_from_slice(&weight.to_le_bytes());
+            }
+            tail
+        }
     }
 }

@@ -1,6 +1,7 @@
 //! Valid steps that no certificate needs: they make records long and give every kind of step.
 
 mod lengthy;
+mod weighted;
 
 use crate::bounds::{cost_bound, independent_bound, resolvent};
 use crate::certificate::{Reason, Step};
@@ -17,11 +18,11 @@ const LONGEST: usize = 12;
 /// Which kinds the padding has.
 #[derive(Clone, Copy, Debug, PartialEq, Eq)]
 pub enum Mix {
-    /// All four kinds.
+    /// All kinds: five of nine steps are resolutions.
     Mixed,
     /// Resolutions, and only as many others as it takes to have premises.
     Resolution,
-    /// A quarter of each kind, in steps of 20 to 40 literals. The sheet has to have clauses of that length.
+    /// A quarter of each of the first four kinds, in steps of 20 to 40 literals. The sheet has to have clauses of that length.
     Long,
     /// Such steps of one kind, and where that is resolution, as many others as it takes to have premises.
     LongOf(Kind),
@@ -34,9 +35,20 @@ pub enum Kind {
     Cost,
     Independent,
     Resolution,
+    Linear,
 }
 
+/// The kinds of records that have none of weights; the first two need no premises.
 const KINDS: [Kind; 4] = [Kind::Copy, Kind::Cost, Kind::Independent, Kind::Resolution];
+
+/// The kinds of mixed records; the last one is drawn more often.
+const MIXED: [Kind; 5] = [
+    Kind::Copy,
+    Kind::Cost,
+    Kind::Independent,
+    Kind::Linear,
+    Kind::Resolution,
+];
 
 /// An earlier step under its number.
 type Premise = Rc<(u32, Step)>;
@@ -73,7 +85,7 @@ impl<'a> Padding<'a> {
     pub fn step(&mut self) -> Step {
         self.made += 1;
         let kind = match self.mix {
-            Mix::Mixed => KINDS[self.random.below(8).min(3)],
+            Mix::Mixed => MIXED[self.random.below(9).min(4)],
             Mix::Long => KINDS[self.random.below(4)],
             Mix::Resolution | Mix::LongOf(Kind::Resolution) if self.lacks_premises() => {
                 KINDS[self.random.below(2)]
@@ -86,9 +98,11 @@ impl<'a> Padding<'a> {
             (Kind::Cost, false) => None,
             (Kind::Independent, false) => self.independent(),
             (Kind::Resolution, false) => self.resolution(),
+            (Kind::Linear, false) => self.linear(),
             (Kind::Cost, true) => self.partner(),
             (Kind::Independent, true) => self.long_independent(),
             (Kind::Resolution, true) => self.long_resolution(),
+            (Kind::Linear, true) => self.long_linear(),
         };
         step.unwrap_or_else(|| self.cost())
     }

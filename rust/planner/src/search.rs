@@ -5,6 +5,7 @@
 mod lower;
 mod propagation;
 mod trail;
+mod weights;
 
 use crate::certificate::Certificate;
 use crate::problem::{Literal, Problem, NONE};
@@ -12,6 +13,25 @@ use crate::Plan;
 use lower::{outlook, Explanation, Outlook};
 use propagation::Store;
 use trail::Trail;
+use weights::{Ascent, Weighted};
+
+/// Which lower bounds the search looks for.
+#[derive(Clone, Copy, Debug, Default, PartialEq, Eq)]
+pub enum Bounds {
+    /// Independent clauses (kind 3) and nothing more.
+    Independent,
+    /// Weights too (kind 5), where independent clauses do not reach.
+    #[default]
+    Weights,
+}
+
+/// How much work a search was.
+#[derive(Clone, Copy, Debug, Default, PartialEq, Eq)]
+pub struct Effort {
+    /// The partial assignments, each after propagation, that were looked at.
+    pub nodes: u64,
+    pub conflicts: u64,
+}
 
 struct Search<'a> {
     problem: &'a Problem,
@@ -23,6 +43,9 @@ struct Search<'a> {
     bump: f64,
     best: u64,
     assignment: Vec<bool>,
+    /// Nothing where no weights are wanted.
+    ascent: Option<Ascent<'a>>,
+    effort: Effort,
 }
 
 /// The plan of a least-cost assignment, or that none exists.
@@ -32,24 +55,31 @@ pub fn plan(problem: &Problem) -> Plan {
 
 /// As `plan`, but gives up after so many conflicts.
 pub fn plan_within(problem: &Problem, conflicts: u64) -> Option<Plan> {
-    let mut search = Search::new(problem);
+    plan_by(problem, Bounds::default(), conflicts).0
+}
+
+/// As `plan_within`, with the bounds that are wanted; also tells how much work it was.
+pub fn plan_by(problem: &Problem, bounds: Bounds, conflicts: u64) -> (Option<Plan>, Effort) {
+    let mut search = Search::new(problem, bounds);
     let mut conflict = search.set_units();
-    for _ in 0..conflicts {
+    while search.effort.conflicts < conflicts {
+        search.effort.conflicts += 1;
         let step = match conflict.take() {
             Some(step) => step,
             None => search.descend(),
         };
         let learned = search.analyze(step);
         if search.certificate.step(learned).literals.is_empty() {
-            return Some(search.finish(learned));
+            let effort = search.effort;
+            return (Some(search.finish(learned)), effort);
         }
         search.learn(learned);
     }
-    None
+    (None, search.effort)
 }
 
 impl<'a> Search<'a> {
-    fn new(problem: &'a Problem) -> Self {
+    fn new(problem: &'a Problem, bounds: Bounds) -> Self {
         let variables = problem.variables();
         let mut store = Store::new(variables);
         for clause in &problem.clauses {
@@ -67,6 +97,8 @@ impl<'a> Search<'a> {
             bump: 1.0,
             best: NONE,
             assignment: vec![false; variables],
+            ascent: (bounds == Bounds::Weights).then(|| Ascent::new(problem)),
+            effort: Effort::default(),
         }
     }
 
@@ -102,20 +134,38 @@ impl<'a> Search<'a> {
             if let Some(broken) = self.store.propagate(&mut self.trail) {
                 return self.step_of(broken);
             }
+            self.effort.nodes += 1;
             match outlook(self.problem, &self.trail, self.best) {
                 Outlook::Hopeless(explanation) => return self.explain(explanation),
                 Outlook::Satisfied => self.improve(),
-                Outlook::Undecided(unset) => self.decide(&unset),
+                Outlook::Undecided(unset) => match self.weighted() {
+                    Some(explanation) => return self.explain(explanation),
+                    None => self.decide(&unset),
+                },
             }
         }
     }
 
-    fn explain(&mut self, Explanation { literals, clauses }: Explanation) -> u32 {
-        if clauses.is_empty() {
-            return self.certificate.cost(literals);
+    /// What weights show here, once there is an assignment to be cheaper than.
+    fn weighted(&mut self) -> Option<Explanation> {
+        let ascent = self.ascent.as_mut().filter(|_| self.best != NONE)?;
+        let weighted = ascent.explanation(&self.trail, self.best)?;
+        Some(Explanation::Linear(weighted))
+    }
+
+    fn explain(&mut self, explanation: Explanation) -> u32 {
+        let certificate = &mut self.certificate;
+        match explanation {
+            Explanation::Cost { literals } => certificate.cost(literals),
+            Explanation::Independent { literals, clauses } => certificate
+                .independent(literals, clauses)
+                .expect("the chosen clauses are independent"),
+            Explanation::Linear(Weighted {
+                literals,
+                divisor,
+                weights,
+            }) => certificate.linear(literals, divisor, weights),
         }
-        let step = self.certificate.independent(literals, clauses);
-        step.expect("the chosen clauses are independent")
     }
 
     /// Takes over a cheaper assignment; from now on its own cost ends this branch.

@@ -63,6 +63,19 @@ fn record_offsets_are_those_of_the_paper() {
 }
 
 #[test]
+fn weights_are_stored_after_their_divisor() {
+    let problem = two_clauses();
+    let mut certificate = Certificate::new(&problem);
+    let step = certificate.linear(clause(&[1]), 2, vec![(1, 5), (2, 0x1234)]);
+    // Clause 2 has one negative literal, so that its weight counts for nothing; variable 2 has more left than its cost.
+    assert_eq!(certificate.step(step).bound, 3);
+    let expected = [
+        5, 0, 1, 0, 3, 0, 0, 0, 0, 0, 0, 0, 2, 0, 2, 0, 1, 0, 0, 0, 5, 0, 2, 0, 0, 0, 0x34, 0x12,
+    ];
+    assert_eq!(format::step_body(certificate.step(step)), expected);
+}
+
+#[test]
 fn eight_clauses_cost_eleven_both_ways() {
     let problem = eight_clauses();
     for plan in [tree::plan(&problem), search::plan(&problem)] {

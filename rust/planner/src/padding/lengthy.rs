@@ -88,7 +88,7 @@ impl Padding<'_> {
     }
 
     /// As many literals as wanted, in order: the new ones are of variables that are not taken.
-    fn filled(
+    pub(super) fn filled(
         &mut self,
         mut literals: Vec<Literal>,
         mut taken: Vec<usize>,

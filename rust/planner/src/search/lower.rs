@@ -1,6 +1,7 @@
 //! Lower bounds for a partial assignment, and the short cost clauses that explain them.
 
 use super::trail::Trail;
+use super::weights::Weighted;
 use crate::problem::{Literal, Problem};
 
 /// A clause that could join an independent set.
@@ -10,10 +11,18 @@ struct Candidate {
     unset: Vec<Literal>,
 }
 
-/// Why the search may stop here: the literals, all false, and the cited clauses, if any.
-pub struct Explanation {
-    pub literals: Vec<Literal>,
-    pub clauses: Vec<u32>,
+/// Why the search may stop here: literals, all false, and what bounds the cost from below where they are.
+pub enum Explanation {
+    /// The true variables alone.
+    Cost {
+        literals: Vec<Literal>,
+    },
+    /// With independent clauses.
+    Independent {
+        literals: Vec<Literal>,
+        clauses: Vec<u32>,
+    },
+    Linear(Weighted),
 }
 
 /// What one look at the clauses of the sheet tells.
@@ -28,15 +37,10 @@ pub enum Outlook {
 
 /// Looks for a reason why no extension of the trail costs less than `target`.
 pub fn outlook(problem: &Problem, trail: &Trail, target: u64) -> Outlook {
-    let paid: u64 = true_variables(trail)
-        .map(|literal| problem.cost_of(literal))
-        .sum();
+    let paid = paid(problem, trail);
     if paid >= target {
         let literals = shortened(problem, trail, Vec::new(), paid - target);
-        return Outlook::Hopeless(Explanation {
-            literals,
-            clauses: Vec::new(),
-        });
+        return Outlook::Hopeless(Explanation::Cost { literals });
     }
     let (candidates, unset) = candidates(problem, trail);
     if unset.is_empty() {
@@ -50,7 +54,14 @@ pub fn outlook(problem: &Problem, trail: &Trail, target: u64) -> Outlook {
     let kept = kept_literals(problem, trail, &chosen);
     let literals = shortened(problem, trail, kept, bound - target);
     let clauses = chosen.iter().map(|candidate| candidate.number).collect();
-    Outlook::Hopeless(Explanation { literals, clauses })
+    Outlook::Hopeless(Explanation::Independent { literals, clauses })
+}
+
+/// What the true variables cost.
+pub fn paid(problem: &Problem, trail: &Trail) -> u64 {
+    true_variables(trail)
+        .map(|literal| problem.cost_of(literal))
+        .sum()
 }
 
 fn true_variables(trail: &Trail) -> impl Iterator<Item = Literal> + '_ {

@@ -1,0 +1,41 @@
+//! Random covering problems, and the reference checker's word on their records.
+
+use planner::random::Random;
+use planner::{format, Literal, Problem};
+
+#[derive(Clone, Copy, Debug)]
+pub struct Shape {
+    pub variables: usize,
+    pub clauses: usize,
+    /// The fewest and the most literals of a clause.
+    pub lengths: [usize; 2],
+    /// The share of positive literals in 100.
+    pub positive: usize,
+    /// Costs are from 1 to this.
+    pub dearest: usize,
+}
+
+pub fn problem(shape: &Shape, random: &mut Random) -> Problem {
+    let costs = (0..shape.variables)
+        .map(|_| random.between(1, shape.dearest) as u32)
+        .collect();
+    let clauses = (0..shape.clauses).map(|_| clause(shape, random)).collect();
+    Problem { costs, clauses }
+}
+
+fn clause(shape: &Shape, random: &mut Random) -> Vec<Literal> {
+    let length = random.between(shape.lengths[0], shape.lengths[1]);
+    let mut literals: Vec<Literal> = Vec::with_capacity(length);
+    while literals.len() < length {
+        let variable = random.between(1, shape.variables);
+        if literals.iter().all(|held| held.variable() != variable) {
+            literals.push(Literal::new(variable, random.percent(shape.positive)));
+        }
+    }
+    literals.sort_unstable();
+    literals
+}
+
+pub fn accepted(problem: &Problem, record: &[u8]) -> bool {
+    reference::judge(&format::sheet(problem), record).number == 0
+}
