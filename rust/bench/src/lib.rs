@@ -9,6 +9,7 @@
 mod copy;
 mod independent;
 mod judge;
+mod linear;
 mod plan;
 mod read;
 mod record;

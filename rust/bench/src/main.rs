@@ -18,7 +18,7 @@ const SEED: u64 = 11;
 const MEGABYTE: usize = 1_000_000;
 
 /// The sets of records. Those of long steps of one kind are to find out where the time goes.
-const SETS: [(&str, Mix); 7] = [
+const SETS: [(&str, Mix); 8] = [
     ("mixed", Mix::Mixed),
     ("resolution", Mix::Resolution),
     ("long", Mix::Long),
@@ -26,6 +26,7 @@ const SETS: [(&str, Mix); 7] = [
     ("long-cost", Mix::LongOf(Kind::Cost)),
     ("long-independent", Mix::LongOf(Kind::Independent)),
     ("long-resolution", Mix::LongOf(Kind::Resolution)),
+    ("long-linear", Mix::LongOf(Kind::Linear)),
 ];
 
 type Job = fn(&[u8], &[u8]) -> u64;

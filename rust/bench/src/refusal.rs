@@ -22,3 +22,5 @@ pub(crate) const CLOSE: u64 = 19;
 pub(crate) const UNSETTLED_SHUT: u64 = 20;
 pub(crate) const ALL_SETTLED: u64 = 21;
 pub(crate) const SHARED_PADDLE: u64 = 22;
+pub(crate) const WEIGHTS: u64 = 23;
+pub(crate) const LINEAR_BOUND: u64 = 24;

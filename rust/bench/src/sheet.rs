@@ -91,6 +91,17 @@ impl<'a> Sheet<'a> {
         codes(self.body(k))
     }
 
+    /// The literals of clause k, and whole eights of literals that begin with them, or nothing where the file ends before the
+    /// last eight does. The last may go on into the clauses that follow: so the length of a short clause need not be guessed.
+    #[inline]
+    pub fn clause_in_eights(&self, k: usize) -> (Codes<'a>, Option<&'a [[[u8; 2]; 8]]>) {
+        let (offset, length) = pair(self.pairs[k - 1]);
+        let onward = codes(&self.bytes[offset..]);
+        let clause = &onward[..length / 2];
+        let eights = onward.as_chunks().0;
+        (clause, eights.get(..clause.len().div_ceil(8)))
+    }
+
     /// The literals of clause k, if there is one.
     pub fn find_clause(&self, k: usize) -> Option<Codes<'a>> {
         (1..=self.clause_count())

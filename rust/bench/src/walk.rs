@@ -1,7 +1,8 @@
-//! The steps: refusals 7, 8, 9, 12 to 18 and 20 to 22, in one pass over the pairs.
+//! The steps: refusals 7, 8, 9, 12 to 18 and 20 to 24, in one pass over the pairs.
 
 use crate::copy;
 use crate::independent::{self, Stamps};
+use crate::linear::{self, Weights};
 use crate::read::{code, fault, number, pair, rises, Fault};
 use crate::record::Record;
 use crate::refusal;
@@ -14,6 +15,7 @@ pub(crate) struct Walk<'a, R> {
     record: &'a Record<'a>,
     resolve: R,
     stamps: Stamps,
+    weights: Weights,
 }
 
 impl<'a, R: Resolve> Walk<'a, R> {
@@ -23,6 +25,7 @@ impl<'a, R: Resolve> Walk<'a, R> {
             record,
             resolve: R::new(),
             stamps: Stamps::new(),
+            weights: Weights::new(),
         }
     }
 
@@ -59,6 +62,7 @@ impl<'a, R: Resolve> Walk<'a, R> {
             [2, 0, ..] => self.cost(&claim, tail),
             [3, 0, ..] => independent::check(&mut self.stamps, self.sheet, &claim, tail, k),
             [4, 0, ..] => self.resolution(&claim, tail, k),
+            [5, 0, ..] => linear::check(&mut self.weights, self.sheet, &claim, tail),
             _ => Err(refusal::STEP_FORM),
         }
     }

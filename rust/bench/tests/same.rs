@@ -1,7 +1,7 @@
 //! Both ways of the fast checker answer as the reference checker does: else their times would compare different work.
 
 use bench::{judge, Marks, Merge};
-use planner::padding::Mix;
+use planner::padding::{Kind, Mix};
 use proved::Answer;
 use samples::NUMBERS;
 
@@ -39,7 +39,12 @@ fn on_generated_and_damaged_records() {
 
 #[test]
 fn on_longer_records() {
-    for mix in [Mix::Mixed, Mix::Resolution, Mix::Long] {
+    for mix in [
+        Mix::Mixed,
+        Mix::Resolution,
+        Mix::Long,
+        Mix::LongOf(Kind::Linear),
+    ] {
         let sample = samples::long(7, 300_000, mix);
         assert_eq!(same(&sample.sheet, &sample.record, "long"), 0);
         let mut damaged = sample.record;
