@@ -28,7 +28,7 @@ const COMMANDS: [Command; 7] = [
     Command { name: "stats", help: help::STATS, known: &[], run: judging::counted },
     Command { name: "text", help: help::TEXT, known: &["--record", "-o"], run: texts::as_text },
     Command { name: "pack", help: help::PACK, known: &["-o"], run: texts::packed },
-    Command { name: "plan", help: help::PLAN, known: &["--tree", "-o"], run: planning::planned },
+    Command { name: "plan", help: help::PLAN, known: &["--tree", "--unweighted", "-o"], run: planning::planned },
     Command { name: "import", help: help::IMPORT, known: &["-o"], run: planning::imported },
 ];
 

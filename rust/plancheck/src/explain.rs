@@ -1,11 +1,10 @@
 //! An answer with the place that it names: the proved checker's line, a sentence, and what stands there.
 
-use crate::dependence;
 use crate::places::{cited_lines, clause_line, cost, pair_line, step_line};
 use crate::record::{Record, ASSIGNMENT};
 use crate::refusals::sentence;
 use crate::sheet::Sheet;
-use crate::text;
+use crate::{dependence, text, weights};
 use proved::{Answer, NONE};
 
 /// The lines for the answer that the proved checker gave to these files.
@@ -103,8 +102,9 @@ fn in_claim_or_step(sheet: &Sheet, record: &Record, answer: &Answer) -> Vec<Stri
             if number == 19 {
                 lines.push(claim);
             }
-            let cited = dependence::lines(sheet, record, answer);
-            lines.extend(cited.unwrap_or_else(|| cited_lines(sheet, record, place)));
+            let mended = dependence::lines(sheet, record, answer);
+            let mended = mended.or_else(|| weights::lines(sheet, record, answer));
+            lines.extend(mended.unwrap_or_else(|| cited_lines(sheet, record, place)));
             lines
         }
     }

@@ -29,13 +29,19 @@ plancheck explain SHEET RECORD
 Prints the proved checker's line, what it says in plain words, and the place that it names: the clause or the step as text,
 and the clauses, costs or steps that it cites. Where an independent set is none, the clause at fault comes first, with what would
 mend the step. Exit codes as with judge.
+
+For a weighted step a table shows how its bound comes about. A variable's remainder is the divisor times its cost, minus the weights
+of the cited clauses that hold it positive, plus those of the clauses that hold it negative. A variable adds its remainder where it
+is settled true, nothing where it is settled false, and where it is unsettled its remainder if that is below 0. A cited clause adds
+its weight times (1 - its negative literals). If the divisor or a weight is 0, or the bound is another, mends come last.
 ";
 
 pub const STATS: &str = "\
 plancheck stats SHEET RECORD
 
-Prints the proved checker's line, then counts: steps by kind, literals, bytes, the depth of the last step's derivation, and how
-many earlier steps the last one rests on. Exit code 0 also for a refused record, 1 where the layout cannot be read.
+Prints the proved checker's line, then counts: steps by kind, literals, clauses with weights, bytes, the depth of the last step's
+derivation, and how many earlier steps the last one rests on. Exit code 0 also for a refused record, 1 where the layout cannot be
+read.
 ";
 
 pub const TEXT: &str = "\
@@ -46,13 +52,14 @@ Writes a valid sheet, or a record whose head and pairs are right, as lines to re
 
   sheet                          record
   cost 1 3                       variables 2
-  clause 1 -2                    claim 3                           or: claim none
-                                 assign 1                          the variables that are true
-                                 copy 1 : 1 2 bound none           clause 1
+  clause 1 -2                    claim 3                             or: claim none
+                                 assign 1                            the variables that are true
+                                 copy 1 : 1 2 bound none             clause 1
                                  cost : -1 bound 3
-                                 independent 1 2 : -3 bound 5      clauses 1 and 2
-                                 resolve 1 2 on 2 : 1 bound none   steps 1 and 2, pivot 2
-                                 raw 09 00                         bytes that are no step
+                                 independent 1 2 : -3 bound 5        clauses 1 and 2
+                                 resolve 1 2 on 2 : 1 bound none     steps 1 and 2, pivot 2
+                                 weighted 1*3 2*4 over 2 : bound 4   clause 1 of weight 3, clause 2 of weight 4, divisor 2
+                                 raw 09 00                           bytes that are no step
 
 A literal is a variable's number, negative for a negative literal. # begins a comment. 'assign raw' and bytes stand for an
 assignment with bits that belong to no variable.
@@ -66,10 +73,11 @@ What the file's fields can hold is written, right or wrong; 'plancheck judge' sa
 ";
 
 pub const PLAN: &str = "\
-plancheck plan [--tree] SHEET -o RECORD
+plancheck plan [--tree | --unweighted] SHEET -o RECORD
 
 Finds a least-cost assignment by branch and bound, writes the record, and prints what the proved checker says to it. This can
-take long on large sheets. --tree tries every assignment instead, for 16 variables at most. Exit codes as with judge.
+take long on large sheets. --unweighted does without weighted steps. --tree tries every assignment instead, for 16 variables at
+most. Exit codes as with judge.
 ";
 
 pub const IMPORT: &str = "\

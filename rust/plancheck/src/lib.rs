@@ -20,4 +20,6 @@ pub mod sheet;
 pub mod stats;
 pub mod steps;
 pub mod text;
+pub mod weighted;
+pub mod weights;
 pub mod words;

@@ -3,11 +3,11 @@
 use crate::bodies::Bodies;
 use crate::record::Record;
 use crate::sheet::Sheet;
-use crate::{steps, text};
+use crate::{steps, text, weighted};
 use planner::{Reason, Step};
 
 /// A citation of more clauses than this is cut when shown.
-const MOST: usize = 24;
+pub const MOST: usize = 24;
 /// How many bytes are shown of a body that cannot be read.
 const MOST_BYTES: usize = 64;
 
@@ -59,7 +59,7 @@ pub fn pair_line(bodies: &Bodies, what: &str, file: &str, number: usize, size: u
     line
 }
 
-/// The lines of what a step cites: clauses, steps, or the costs that it adds up.
+/// The lines of what a step cites: clauses, steps, or what it adds up.
 pub fn cited_lines(sheet: &Sheet, record: &Record, number: usize) -> Vec<String> {
     let body = record.steps.body(number);
     let Some(step) = body.and_then(steps::read) else {
@@ -74,6 +74,9 @@ pub fn cited_lines(sheet: &Sheet, record: &Record, number: usize) -> Vec<String>
         } => [*positive, *negative]
             .map(|cited| step_line(record, cited as usize))
             .to_vec(),
+        Reason::Linear { divisor, weights } => {
+            weighted::lines(sheet, &step.literals, *divisor, weights)
+        }
     }
 }
 

@@ -15,7 +15,7 @@ pub enum Place {
 pub fn place_of(number: u64) -> Place {
     match number {
         3 | 4 | 10 => Place::Clause,
-        7..=9 | 12..=22 => Place::Step,
+        7..=9 | 12..=24 => Place::Step,
         _ => Place::File,
     }
 }
@@ -31,7 +31,7 @@ pub fn sentence(answer: &Answer) -> String {
         ),
         (1..=7, _) => about_layout(answer.number, place),
         (8..=11, _) => about_claim(answer.number, place),
-        (12..=22, _) => about_step(answer.number, place),
+        (12..=24, _) => about_step(answer.number, place),
         (number, _) => format!("{number} is not the number of a refusal."),
     }
 }
@@ -70,6 +70,8 @@ fn about_step(number: u64, place: u64) -> String {
         16 => format!("Pivot: the first step that step {place} cites lacks the pivot as a positive literal, or the second lacks it as a negative one."),
         17 => format!("Resolvent: the literals of step {place} are not those that are left of the two cited steps, or a variable stands there both ways."),
         18 => format!("Lesser bound: the bound of step {place} is not the lesser of the two bounds that it cites."),
+        23 => format!("Weights: step {place} divides by 0, or gives a clause the weight 0, where 1 is the least."),
+        24 => format!("Linear bound: the bound of step {place} is not its total divided by its divisor and rounded up, or 0 where the total is not positive."),
         _ => format!("Close: step {place} is the last and has to have no literals and a bound that is not below the claim."),
     }
 }

@@ -6,9 +6,11 @@ use planner::Reason;
 
 #[derive(Clone, Debug, Default, PartialEq, Eq)]
 pub struct Stats {
-    /// Steps that copy, cost, cite independent sets, resolve; and bodies that are no step.
-    pub kinds: [usize; 5],
+    /// Steps that copy, cost, cite independent sets, resolve, weigh clauses; and bodies that are no step.
+    pub kinds: [usize; 6],
     pub literals: usize,
+    /// Clauses with weights, over all weighted steps.
+    pub entries: usize,
     /// The most steps on a way from the last step back to one that cites no step.
     pub depth: u32,
     /// How many earlier steps the last one rests on, directly or through others.
@@ -25,11 +27,14 @@ pub fn stats(record: &Record) -> Stats {
     for number in 1..=count {
         let step = record.steps.body(number).and_then(steps::read);
         // The last place is for bodies that are no step.
-        let kind = step.as_ref().map_or(5, |step| step.reason.kind());
+        let kind = step.as_ref().map_or(6, |step| step.reason.kind());
         stats.kinds[usize::from(kind) - 1] += 1;
         if let Some(step) = step {
             stats.literals += step.literals.len();
             cited[number] = cited_by(&step.reason, number);
+            if let Reason::Linear { weights, .. } = &step.reason {
+                stats.entries += weights.len();
+            }
         }
         let [first, second] = cited[number].map(|step| depths[step as usize]);
         depths[number] = 1 + first.max(second);

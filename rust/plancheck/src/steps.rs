@@ -34,6 +34,13 @@ fn reason(kind: u8, tail: &[u8]) -> Option<Reason> {
             negative: u32_at(tail, 4)?,
             pivot: u16_at(tail, 8)?,
         }),
+        5 => {
+            let entries = tail.get(2..)?.chunks(6);
+            let weights = entries.map(|entry| Some((u32_at(entry, 0)?, u16_at(entry, 4)?)));
+            let weights: Vec<_> = weights.collect::<Option<_>>()?;
+            let divisor = u16_at(tail, 0)?;
+            (!weights.is_empty()).then_some(Reason::Linear { divisor, weights })
+        }
         _ => None,
     }
 }

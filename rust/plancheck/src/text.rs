@@ -67,6 +67,10 @@ pub fn step_line(step: &Step) -> String {
             negative,
             pivot,
         } => format!("resolve {positive} {negative} on {pivot}"),
+        Reason::Linear { divisor, weights } => {
+            let cited = weights.iter().map(|(clause, y)| format!(" {clause}*{y}"));
+            format!("weighted{} over {divisor}", cited.collect::<String>())
+        }
     };
     let literals = listed(&step.literals);
     format!("{reason} :{literals} bound {}", amount(step.bound))

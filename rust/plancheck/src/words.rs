@@ -64,6 +64,10 @@ impl<'a> Words<'a> {
         let Some(word) = self.take() else {
             return Err(self.fault(format!("{what} is missing")));
         };
+        self.plain(what, word, most)
+    }
+
+    fn plain(&self, what: &str, word: &str, most: u64) -> Result<u64, Fault> {
         match word.parse::<u64>() {
             Ok(number) if number > most => {
                 Err(self.fault(format!("{what} is {word}, above {most}")))
@@ -71,6 +75,19 @@ impl<'a> Words<'a> {
             Ok(number) if number.to_string() == word => Ok(number),
             _ => Err(self.fault(format!("{what} is no plain number: '{word}'"))),
         }
+    }
+
+    /// A clause with its weight, `CLAUSE*WEIGHT`.
+    pub fn weighted(&mut self) -> Result<(u32, u16), Fault> {
+        let word = self.take().unwrap_or("");
+        let Some((clause, weight)) = word.split_once('*') else {
+            let reason = format!("'{word}' is no clause with a weight: write CLAUSE*WEIGHT");
+            return Err(self.fault(reason));
+        };
+        let clause = self.plain("a clause", clause, u64::from(u32::MAX))?;
+        let what = format!("the weight of clause {clause}");
+        let weight = self.plain(&what, weight, u64::from(u16::MAX))?;
+        Ok((clause as u32, weight as u16))
     }
 
     /// A claim or a bound: a number or `none`.

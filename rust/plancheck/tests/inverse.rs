@@ -107,8 +107,13 @@ cost : -1 bound 3
 independent 1 2 :   bound 18446744073709551614
 independent : 2 -1 bound 0
 resolve 1 0 on 65535 : 32767 bound 3
+weighted 1*3 2*4 over 2 : 1 -2 bound 4
+weighted 4294967295*65535 0*0 over 0 : bound none
+weighted 7*1 over 65535 : 2 -1 bound 0
 raw
 raw 01 00 FF
+raw 05 00 00 00 00 00 00 00 00 00 00 00 01 00
+raw 05 00 00 00 00 00 00 00 00 00 00 00 01 00 02 00 00 00 03
 ";
 
 #[test]
@@ -160,6 +165,46 @@ fn faults_name_their_line() {
         let fault = pack(text).unwrap_err();
         assert_eq!(fault.line, line, "{text}: {}", fault.reason);
     }
+}
+
+const NO_CLAUSE: &str = "a weighted step cites one clause at least: write CLAUSE*WEIGHT";
+
+/// Lines of weighted steps that cannot be written, and why.
+#[rustfmt::skip]
+const WEIGHTS: [(&str, &str); 15] = [
+    ("weighted 1*65536 over 1 : 1 bound 2", "the weight of clause 1 is 65536, above 65535"),
+    ("weighted 1*-3 over 1 : 1 bound 2", "the weight of clause 1 is no plain number: '-3'"),
+    ("weighted 1* over 1 : 1 bound 2", "the weight of clause 1 is no plain number: ''"),
+    ("weighted 1*03 over 1 : 1 bound 2", "the weight of clause 1 is no plain number: '03'"),
+    ("weighted 1*3*2 over 1 : 1 bound 2", "the weight of clause 1 is no plain number: '3*2'"),
+    ("weighted 4294967296*3 over 1 : 1 bound 2", "a clause is 4294967296, above 4294967295"),
+    ("weighted *3 over 1 : 1 bound 2", "a clause is no plain number: ''"),
+    ("weighted 1 2 over 1 : 1 bound 2", "'1' is no clause with a weight: write CLAUSE*WEIGHT"),
+    ("weighted 1*3 2*4 : 1 bound 2", "'over' is due here, not ':'"),
+    ("weighted 1*3 over : 1 bound 2", "the divisor is no plain number: ':'"),
+    ("weighted 1*3 over", "the divisor is missing"),
+    ("weighted 1*3 over 65536 : 1 bound 2", "the divisor is 65536, above 65535"),
+    ("weighted 1*3 over 2 2*4 : 1 bound 2", "':' is due here, not '2*4'"),
+    ("weighted over 1 : 1 bound 2", NO_CLAUSE),
+    ("weighted : 1 bound 2", NO_CLAUSE),
+];
+
+#[test]
+fn faults_of_weights_say_what_is_due() {
+    for (line, reason) in WEIGHTS {
+        let text = format!("record\nvariables 2\nclaim 3\nassign 1\n{line}\n");
+        let fault = pack(&text).unwrap_err();
+        assert_eq!((fault.line, fault.reason.as_str()), (5, reason));
+    }
+}
+
+/// Each body has one text: these bytes are a step.
+#[test]
+fn a_weighted_step_is_not_written_raw() {
+    let bytes = "05 00 00 00 01 00 00 00 00 00 00 00 01 00 02 00 00 00 03 00";
+    let text = format!("record\nvariables 2\nclaim 3\nassign 1\nraw {bytes}\n");
+    let reason = "write these bytes as 'weighted 2*3 over 1 : bound 1'";
+    assert_eq!(pack(&text).unwrap_err().reason, reason);
 }
 
 #[test]

@@ -77,9 +77,29 @@ fn stats_count_the_worked_pair() {
     folder.write("record", &record);
     let counted = folder.run(&["stats", "sheet", "record"]);
     let wanted = "least 3 open 1 steps 5\nsheet: 2 variables, 2 clauses, 36 bytes\nrecord: 153 bytes\n\
-        steps: 5 (copy 2, cost 1, independent 0, resolve 2)\nliterals in steps: 6\ndepth of the last step: 3\n\
+        steps: 5 (copy 2, cost 1, independent 0, resolve 2, weighted 0)\nliterals in steps: 6\ndepth of the last step: 3\n\
         steps that the last one rests on: 4\n";
     assert_eq!((printed(&counted).as_str(), code(&counted)), (wanted, 0));
+}
+
+#[test]
+fn stats_count_weights() {
+    let folder = Folder::new("stats-weights");
+    let sheet = "sheet\ncost 1 4\ncost 2 3\ncost 3 2\nclause 1 2\nclause 2 3\nclause 1 3\n";
+    let record = "record\nvariables 3\nclaim 5\nassign 2 3\n\
+        weighted 1*2 over 1 : -1 bound 4\nraw 05 00\nweighted 1*5 2*1 3*3 over 2 : bound 5\n";
+    for (name, text) in [("sheet", sheet), ("record", record)] {
+        folder.write(&format!("{name}.txt"), text);
+        let packed = folder.run(&["pack", &format!("{name}.txt"), "-o", name]);
+        assert_eq!(code(&packed), 0);
+    }
+    let counted = folder.run(&["stats", "sheet", "record"]);
+    let counts = printed(&counted);
+    let counts = counts.split("record: ").nth(1).unwrap();
+    let wanted = "93 bytes\nsteps: 3 (copy 0, cost 0, independent 0, resolve 0, weighted 2)\n\
+        literals in steps: 1\ndepth of the last step: 1\nsteps that the last one rests on: 0\n\
+        clauses with weights: 4\nbodies that are no step: 1\n";
+    assert_eq!((counts, code(&counted)), (wanted, 0));
 }
 
 #[test]

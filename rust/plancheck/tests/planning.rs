@@ -20,8 +20,8 @@ fn planned_sheets_are_accepted() {
         };
         folder.write("sheet", format::sheet(&problem));
         let ways: &[&[&str]] = match problem.variables() {
-            1..=8 => &[&["plan"], &["plan", "--tree"]],
-            _ => &[&["plan"]],
+            1..=8 => &[&["plan"], &["plan", "--unweighted"], &["plan", "--tree"]],
+            _ => &[&["plan"], &["plan", "--unweighted"]],
         };
         for way in ways {
             let planned = folder.run(&[way, &["sheet", "-o", "record"][..]].concat());
@@ -29,6 +29,8 @@ fn planned_sheets_are_accepted() {
             assert!(answer.accepts());
             let line = answer.line() + "\n";
             assert_eq!((printed(&planned), code(&planned)), (line, 0));
+            let shown = printed(&folder.run(&["text", "--record", "sheet", "record"]));
+            assert!(way.len() == 1 || !shown.contains("weighted"), "{shown}");
         }
     }
 }

@@ -27,7 +27,7 @@ pub(super) fn counted(args: &Args, out: &mut dyn Write) -> Outcome {
     let read = files::valid_sheet(sheet_path, &sheet)?;
     let laid_out = files::laid_out(record_path, &sheet, &record)?;
     let stats = stats::stats(&laid_out);
-    let [copies, costs, independent, resolutions, unreadable] = stats.kinds;
+    let [copies, costs, independent, resolutions, weighted, unreadable] = stats.kinds;
     let mut lines = vec![
         proved::judge(&sheet, &record).line(),
         format!(
@@ -37,11 +37,14 @@ pub(super) fn counted(args: &Args, out: &mut dyn Write) -> Outcome {
             sheet.len()
         ),
         format!("record: {} bytes", record.len()),
-        format!("steps: {} (copy {copies}, cost {costs}, independent {independent}, resolve {resolutions})", laid_out.steps.count()),
+        format!("steps: {} (copy {copies}, cost {costs}, independent {independent}, resolve {resolutions}, weighted {weighted})", laid_out.steps.count()),
         format!("literals in steps: {}", stats.literals),
         format!("depth of the last step: {}", stats.depth),
         format!("steps that the last one rests on: {}", stats.needed),
     ];
+    if weighted > 0 {
+        lines.push(format!("clauses with weights: {}", stats.entries));
+    }
     if unreadable > 0 {
         lines.push(format!("bodies that are no step: {unreadable}"));
     }

@@ -4,7 +4,8 @@ use super::{at_line, code, print, Outcome};
 use crate::args::Args;
 use crate::failure::Failure;
 use crate::{files, import};
-use planner::{format, search, tree};
+use planner::search::{self, Bounds};
+use planner::{format, tree, Plan, Problem};
 use std::io::Write;
 
 /// How many variables every assignment may be tried for.
@@ -22,12 +23,22 @@ pub(super) fn planned(args: &Args, out: &mut dyn Write) -> Outcome {
         let most = format!("{}: --tree takes {FEW} variables at most", path.display());
         return Err(Failure::Content(most));
     }
-    let plan = if by_tree { tree::plan } else { search::plan };
+    let plan = match (by_tree, args.has("--unweighted")) {
+        (true, _) => tree::plan,
+        (false, true) => unweighted,
+        (false, false) => search::plan,
+    };
     let record = plan(&problem).record();
     files::write(output, &record)?;
     let answer = proved::judge(&bytes, &record);
     print(out, &format!("{}\n", answer.line()))?;
     Ok(code(&answer))
+}
+
+/// A plan by branch and bound, without weighted steps.
+fn unweighted(problem: &Problem) -> Plan {
+    let (plan, _) = search::plan_by(problem, Bounds::Independent, u64::MAX);
+    plan.expect("no limit was set")
 }
 
 pub(super) fn imported(args: &Args, out: &mut dyn Write) -> Outcome {

@@ -65,10 +65,11 @@ fn body(words: &mut Words) -> Result<Vec<u8>, Fault> {
         Some("cost") => Reason::Cost,
         Some("independent") => independent(words)?,
         Some("resolve") => resolution(words)?,
+        Some("weighted") => weighted(words)?,
         _ => {
-            return Err(
-                words.fault("a step is 'copy', 'cost', 'independent', 'resolve' or 'raw' bytes")
-            )
+            return Err(words.fault(
+                "a step is 'copy', 'cost', 'independent', 'resolve', 'weighted' or 'raw' bytes",
+            ))
         }
     };
     words.expect(":")?;
@@ -121,4 +122,21 @@ fn resolution(words: &mut Words) -> Result<Reason, Fault> {
         negative,
         pivot,
     })
+}
+
+/// Without any clause the bytes are no step of this kind, and a raw line has them.
+fn weighted(words: &mut Words) -> Result<Reason, Fault> {
+    let mut weights = Vec::new();
+    while words
+        .peek()
+        .is_some_and(|word| word != "over" && word != ":")
+    {
+        weights.push(words.weighted()?);
+    }
+    if weights.is_empty() {
+        return Err(words.fault("a weighted step cites one clause at least: write CLAUSE*WEIGHT"));
+    }
+    words.expect("over")?;
+    let divisor = words.number("the divisor", u64::from(u16::MAX))? as u16;
+    Ok(Reason::Linear { divisor, weights })
 }

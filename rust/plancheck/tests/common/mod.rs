@@ -53,3 +53,15 @@ pub fn complained(output: &Output) -> String {
 pub fn root() -> PathBuf {
     Path::new(env!("CARGO_MANIFEST_DIR")).join("../..")
 }
+
+/// The reference checker's answer, which shares no code with an explanation of it.
+pub fn judged(sheet: &[u8], record: &[u8]) -> proved::Answer {
+    let answer = reference::judge(sheet, record);
+    proved::Answer {
+        number: u64::from(answer.number),
+        place: answer.place,
+        cost: answer.cost,
+        open_count: answer.open_count,
+        step_count: answer.step_count,
+    }
+}
