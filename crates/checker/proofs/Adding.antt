@@ -11,7 +11,7 @@ use lib.Dec.{eqb}
 use lib.IntN.{ℤ, pos, negℤ, natAbs, _+ℤ_, _-ℤ_, +ℤ-assoc, +ℤ-comm}
 use borrow.Author.Tests.{eq-eqb, ne-eqb, eqb-true, eqb-false}
 use Rattle.judgement.specs.Scan.{anyOf}
-use Rattle.judgement.specs.Meaning.{positive, negative, variableOf, isPositive}
+use Rattle.judgement.specs.Meaning.{positive, negative, isPositive}
 use Rattle.judgement.specs.Literals.{count, code, variable, holds, mentions}
 use Rattle.judgement.specs.Integers.{sumOfℤ, negativePart}
 use Rattle.judgement.specs.Linear.{addend, addendSum}

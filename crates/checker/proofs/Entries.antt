@@ -1,18 +1,17 @@
 -- Entry j + 1 of the tail e is weighed, one literal after the other, and then the next entry.
 -- Assumes nothing.
-use Prim.Native.Nat.{ℕ, zero, suc, _+_, _-_, _*_, _/_, _%_, _^_, _≤_, _<_}
-use mathlib.Core.Path.{_≡_, refl, sym, _∙_}
+use Prim.Native.Nat.{ℕ, zero, suc, _+_, _-_, _*_, _%_, _^_, _≤_, _<_}
+use mathlib.Core.Path.{_≡_, sym, _∙_}
 use mathlib.Core.Bool.{Bool, true, false, not, cond}
 use mathlib.Core.List.{List}
 use native.Mathlib.Omega.{arith}
 use native.Mathlib.Numerals.{add-one}
 use native.Mathlib.Nat.{mul-zero, add-sub-cancel}
-use lib.ListN.{length, getD}
 use lib.IntN.{ℤ, pos, negℤ, natAbs, _+ℤ_, _-ℤ_, _*ℤ_}
 use Rattle.judgement.specs.Scan.{sumOf, one}
 use Rattle.judgement.specs.Meaning.{positive, negative, variableOf, isPositive}
 use Rattle.judgement.specs.Number.{numberAt}
-use Rattle.judgement.specs.Literals.{count, code, variable, holds}
+use Rattle.judgement.specs.Literals.{count, code, holds}
 use Rattle.judgement.specs.Pairs.{body}
 use Rattle.judgement.specs.Sheet.{variables, costOf, clausePairsAt}
 use Rattle.judgement.specs.Step.{divisor, entryCites, weight}

@@ -8,7 +8,7 @@ use mathlib.Core.List.{List}
 use lib.Dec.{eqb}
 use lib.ListN.{length, getD}
 use lib.IntN.{ℤ, pos, negℤ, _+ℤ_, _-ℤ_}
-use Rattle.judgement.specs.Meaning.{negative, variableOf, isPositive}
+use Rattle.judgement.specs.Meaning.{negative, isPositive}
 use Rattle.judgement.specs.Literals.{code, variable, holds, mentions}
 use Rattle.judgement.specs.Sheet.{variables, costOf, clausePairsAt}
 use Rattle.judgement.specs.Step.{divisor, entryCount, entryCites}

@@ -16,15 +16,15 @@ ghost use lib.ListN.{length, set};
 ghost use Rattle.judgement.specs.Finding.{_then_};
 ghost use Rattle.judgement.specs.Integers.{negativePart, roundedUp};
 ghost use Rattle.judgement.specs.Literals.{count};
-ghost use Rattle.judgement.specs.Sheet.{variables, clausePairsAt};
+ghost use Rattle.judgement.specs.Sheet.{variables};
 ghost use Rattle.judgement.specs.declared.Kind.the-variants.{WeightedSet};
 ghost use Rattle.judgement.specs.Step.{kindOf, literalCount, literals, tail, divisor, entryCount};
 ghost use Rattle.judgement.specs.Linear.{remainder, totalOf, isWeighted, weightsFinding, linearBound};
 ghost use Rattle.judgement.specs.Facts.{Among, LiteralList, ValidSheet};
 ghost use Rattle.checker.specs.Known.{formThen};
-ghost use Rattle.checker.specs.Marks.{mostCodes, Stale, StaleIfFine};
+ghost use Rattle.checker.specs.Marks.{mostCodes, Stale};
 ghost use Rattle.checker.specs.Prices.{priceAt, Prices, priceSum, Cheap};
-ghost use Rattle.checker.specs.Weighing.{Weighable, Entered, shift, negativeWeight, restAt, keptOf, Settling, Weighing, fullOf};
+ghost use Rattle.checker.specs.Weighing.{Weighable, Entered, shift, negativeWeight, keptOf, Settling, Weighing, fullOf};
 
 // The mark of step k is k times this, as kind 3 has it.
 const APART: u64 = 4096;

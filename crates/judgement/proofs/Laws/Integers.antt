@@ -2,14 +2,14 @@
 -- it.
 -- Assumes nothing.
 use Prim.Native.Nat.{ℕ, zero, suc, _+_, _-_, _*_, _/_, _≤_, _<_, min}
-use mathlib.Core.Path.{_≡_, refl, sym}
-use mathlib.Core.Bool.{Bool, cond}
+use mathlib.Core.Path.{_≡_, refl}
+use mathlib.Core.Bool.{cond}
 use native.Mathlib.Omega.{arith}
 use native.Mathlib.Decide.{decLt}
 use native.Mathlib.Nat.{mul-add, mul-suc, mul-comm, div-lt-iff-lt-mul, le-refl}
 use mathlib.Core.Logic.{_⊎_, inl, inr}
 use lib.Dec.{ltb, leb→le, le→leb, ltb→lt, lt→ltb}
-use lib.Signed.{_≤ℤ_, _<ℤ_}
+use lib.Signed.{_<ℤ_}
 use lib.IntN.{ℤ, pos, negsuc, negℤ, subℕ, natAbs, _+ℤ_, _-ℤ_, _*ℤ_}
 use borrow.Author.Tests.{lt-ltb, le-ltb}
 use Rattle.judgement.specs.Scan.{sumOf}

@@ -1,6 +1,6 @@
 -- The refusals of kind 3 said as facts: the answer is one of them exactly when these hold.
 -- Assumes nothing.
-use Prim.Native.Nat.{ℕ, _-_, _≤_, _<_}
+use Prim.Native.Nat.{ℕ, _-_}
 use mathlib.Core.Path.{_≡_, refl}
 use mathlib.Core.Bool.{Bool, true, false, not, _||_}
 use mathlib.Core.List.{List}
@@ -10,7 +10,7 @@ use lib.Dec.{eqb}
 use borrow.Author.Tests.{ne-eqb, eqb-true, eqb-false, not-false}
 use Rattle.judgement.specs.Meaning.{variableOf, isPositive, opposite}
 use Rattle.judgement.specs.declared.Finding.{Finding}
-use Rattle.judgement.specs.declared.Finding.the-variants.{Fine, Fault}
+use Rattle.judgement.specs.declared.Finding.the-variants.{Fault}
 use Rattle.judgement.specs.Finding.{need, _then_}
 use Rattle.judgement.specs.Literals.{count, code, variable, holds}
 use Rattle.judgement.specs.Sheet.{clauses}

@@ -10,7 +10,7 @@ use native.Mathlib.Omega.{arith}
 use native.Mathlib.Decide.{decLt}
 use lib.Dec.{eqb, leb}
 use Rattle.judgement.specs.declared.Finding.{Finding}
-use Rattle.judgement.specs.declared.Finding.the-variants.{Fine, Fault}
+use Rattle.judgement.specs.declared.Finding.the-variants.{Fault}
 use Rattle.judgement.specs.Finding.{_then_}
 use Rattle.judgement.specs.Pairs.{pairFinding, pairsFinding}
 use Rattle.judgement.specs.Sheet.{sheetHead, sheetPairs, clauseForm, sheetFinding}

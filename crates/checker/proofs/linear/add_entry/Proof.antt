@@ -2,7 +2,7 @@
 -- that these move, and the sum is the clause's weight and what they add. The measure is the number of literals left.
 -- Assumes nothing.
 use Prim.Native.Nat.{ℕ, _+_, _-_, _*_, _/_, _^_, _≤_, _<_}
-use mathlib.Core.Path.{_≡_, sym, _∙_}
+use mathlib.Core.Path.{_≡_, _∙_}
 use mathlib.Core.List.{List}
 use native.Mathlib.Omega.{arith}
 use lib.IntN.{ℤ, pos, natAbs, _+ℤ_, _-ℤ_}
@@ -12,7 +12,7 @@ use mir.Syntax.{w64}
 use mir.Val.{toZ}
 use Rattle.judgement.specs.Meaning.{variableOf}
 use Rattle.judgement.specs.Literals.{count}
-use Rattle.judgement.specs.Sheet.{variables, costOf}
+use Rattle.judgement.specs.Sheet.{variables}
 use Rattle.judgement.specs.Linear.{remainder, entryClause, addend}
 use Rattle.judgement.specs.Step.{weight}
 use Rattle.judgement.specs.Facts.{Among, LiteralList}

@@ -4,7 +4,6 @@
 use Prim.Native.Nat.{_-_, _*_, _^_, _≤_}
 use mathlib.Core.Path.{_≡_, refl, _∙_}
 use native.Mathlib.Omega.{arith}
-use lib.ListN.{length}
 use Rattle.judgement.specs.Scan.{sumOf}
 use Rattle.judgement.specs.Literals.{count, code}
 use Rattle.layout.proofs.Loops.{sum-more}

@@ -1,8 +1,7 @@
 -- `checker::linear::weighted_finding` meets its contract: 23, and then 24.
 -- Assumes nothing.
-use mathlib.Core.Path.{_≡_, refl}
 use native.Mathlib.Omega.{arith}
-use Rattle.judgement.specs.Step.{literals, tail, entryCount}
+use Rattle.judgement.specs.Step.{literals, tail}
 use Rattle.checker.proofs.Marking.{stale-later}
 use Rattle.checker.proofs.Totals.{divisor-some, weighable-as, whole-as, weights-fault, bound-fault, bound-fine}
 use borrow.Author.Needs.{needs}

@@ -1,3 +1,5 @@
+-- `checker::signed::gained` meets its contract: both negative parts are small, and so are their difference and what is taken from it.
+-- Assumes nothing.
 use mathlib.Core.Path.{_≡_}
 use native.Mathlib.Omega.{arith}
 use lib.IntN.{pos, _-ℤ_}

@@ -1,3 +1,5 @@
+-- `checker::signed::natural` meets its contract.
+-- Assumes nothing.
 use Rattle.checker.proofs.Bits.{natural}
 use borrow.Author.Needs.{needs}
 use Rattle.checker.proofs.signed.natural.Statement.{statement}

@@ -1,3 +1,5 @@
+-- `checker::signed::negative_part` meets its contract.
+-- Assumes nothing.
 use Rattle.checker.proofs.Bits.{less-read, zero-read}
 use Rattle.checker.proofs.signed.negative_part.Statement.{statement}
 use Rattle.checker.proofs.signed.negative_part.Tie as tie

@@ -1,3 +1,5 @@
+-- `checker::signed::plus` meets its contract: the sum of two small numbers fits.
+-- Assumes nothing.
 use Rattle.checker.proofs.Bits.{held, plus-small, plus-back}
 use Rattle.checker.proofs.signed.plus.Statement.{statement}
 use Rattle.checker.proofs.signed.plus.Tie as tie

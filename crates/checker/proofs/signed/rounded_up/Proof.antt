@@ -1,3 +1,6 @@
+-- `checker::signed::rounded_up` meets its contract: where the total is positive, the quotient of two positive numbers rounds down, and d - 1
+-- more rounds up.
+-- Assumes nothing.
 use Prim.Native.Nat.{_+_, _-_, _/_}
 use native.Mathlib.Omega.{arith}
 use borrow.Author.Needs.{needs}

@@ -1,3 +1,5 @@
+-- `checker::signed::shifted` meets its contract: what is added and taken away is small.
+-- Assumes nothing.
 use Prim.Native.Nat.{_*_}
 use mathlib.Core.Path.{_≡_}
 use native.Mathlib.Omega.{arith}
