@@ -13,7 +13,7 @@ use borrow.Author.Tests.{eq-eqb, ne-eqb, eqb-true, eqb-false}
 use Rattle.judgement.specs.Scan.{anyOf}
 use Rattle.judgement.specs.Meaning.{positive, negative, isPositive}
 use Rattle.judgement.specs.Literals.{count, code, variable, holds, mentions}
-use Rattle.judgement.specs.Integers.{sumOfℤ, negativePart}
+use Rattle.judgement.specs.Integers.{sumOfℤ, belowZero}
 use Rattle.judgement.specs.Linear.{addend, addendSum}
 use Rattle.judgement.specs.Facts.{Among, LiteralList}
 use Rattle.judgement.proofs.Laws.Scan.{which, last-or}
@@ -81,7 +81,7 @@ pub addend-close : (D : List ℕ) (v : ℕ) (r z : ℤ) → natAbs (addend D v (
 unfolding addend
 addend-close D v r z = go (holds D (negative v)) (mentions D v)
   where
-    go : (h m : Bool) → natAbs (cond h (r +ℤ z) (cond m (pos 0) (negativePart (r +ℤ z))) -ℤ cond h r (cond m (pos 0) (negativePart r))) ≤ natAbs z
+    go : (h m : Bool) → natAbs (cond h (r +ℤ z) (cond m (pos 0) (belowZero (r +ℤ z))) -ℤ cond h r (cond m (pos 0) (belowZero r))) ≤ natAbs z
     go true m =
         let s = sum-parts r z in
         let d = minus-parts (r +ℤ z) r in
@@ -89,10 +89,10 @@ addend-close D v r z = go (holds D (negative v)) (mentions D v)
     go false true = omega arith
     go false false =
         let s = sum-parts r z in
-        let d = minus-parts (negativePart (r +ℤ z)) (negativePart r) in
+        let d = minus-parts (belowZero (r +ℤ z)) (belowZero r) in
         let a = less-parts (r +ℤ z) in
         let b = less-parts r in
-        omega (arith, s, d, a, b, one-part (negativePart (r +ℤ z) -ℤ negativePart r), one-part r, one-part (r +ℤ z), size-parts (negativePart (r +ℤ z) -ℤ negativePart r), size-parts z)
+        omega (arith, s, d, a, b, one-part (belowZero (r +ℤ z) -ℤ belowZero r), one-part r, one-part (r +ℤ z), size-parts (belowZero (r +ℤ z) -ℤ belowZero r), size-parts z)
 
 -- ---- the first i literals of a clause C of weight y
 

@@ -14,9 +14,9 @@ use mir.Syntax.{w64}
 use mir.Val.{Fits, SFits, toZ, ofZ}
 use mir.ValLaws.{toZ-ofZ, toZ-pos}
 use Rattle.judgement.specs.Meaning.{isPositive}
-use Rattle.judgement.specs.Integers.{negativePart, roundedUp}
+use Rattle.judgement.specs.Integers.{belowZero, roundedUp}
 use Rattle.checker.specs.Weighing.{shift}
-use Rattle.judgement.proofs.Laws.Integers.{up, down, Diff, pos-diff, add-diff, minus-diff, same-diff}
+use Rattle.judgement.proofs.Laws.Integers.{up, down, Diff, pos-diff, add-diff, minus-diff, same-diff, size-parts}
 
 -- ---- small integers
 
@@ -30,19 +30,14 @@ back z h = toZ-ofZ w64 z (small z h)
 pub natural : (n : ℕ) → n < 2 ^ 63 → toZ w64 n ≡ pos n
 natural n h = toZ-pos w64 n h
 
--- the two parts are the absolute value
-pub parts : (z : ℤ) → up z + down z ≡ natAbs z
-parts (pos n) = omega arith
-parts (negsuc n) = omega arith
-
 pub add-size : (z w : ℤ) → natAbs (z +ℤ w) ≤ natAbs z + natAbs w
 add-size z w = go (z +ℤ w) (add-diff z w (up z) (down z) (up w) (down w) (omega arith) (omega arith))
   where
     go : (x : ℤ) → Diff x (up z + up w) (down z + down w) → natAbs x ≤ natAbs z + natAbs w
-    go (pos n) h = omega (arith, h, parts z, parts w)
-    go (negsuc n) h = omega (arith, h, parts z, parts w)
+    go (pos n) h = omega (arith, h, size-parts z, size-parts w)
+    go (negsuc n) h = omega (arith, h, size-parts z, size-parts w)
 
-pub less-size : (z : ℤ) → natAbs (negativePart z) ≤ natAbs z
+pub less-size : (z : ℤ) → natAbs (belowZero z) ≤ natAbs z
 less-size (pos n) = omega arith
 less-size (negsuc n) = omega arith
 
@@ -109,17 +104,17 @@ rounded-read z n d e b l h = rw (quotient-back z n d e b l h, e)
 
 -- ---- the lesser of an integer and 0
 
-pub less-read : (z : ℤ) → SFits w64 z → ltZ (toZ w64 (ofZ w64 z)) (pos 0) ≡ true → toZ w64 (ofZ w64 z) ≡ negativePart z
+pub less-read : (z : ℤ) → SFits w64 z → ltZ (toZ w64 (ofZ w64 z)) (pos 0) ≡ true → toZ w64 (ofZ w64 z) ≡ belowZero z
 less-read z f t = rw (toZ-ofZ w64 z f) (go z (rw (toZ-ofZ w64 z f) at t))
   where
-    go : (z : ℤ) → ltZ z (pos 0) ≡ true → z ≡ negativePart z
+    go : (z : ℤ) → ltZ z (pos 0) ≡ true → z ≡ belowZero z
     go (pos n) t = absurd (omega (arith, ltb-true n 0 t))
     go (negsuc n) t = refl
 
-pub zero-read : (z : ℤ) → SFits w64 z → ltZ (toZ w64 (ofZ w64 z)) (pos 0) ≡ false → pos 0 ≡ negativePart z
+pub zero-read : (z : ℤ) → SFits w64 z → ltZ (toZ w64 (ofZ w64 z)) (pos 0) ≡ false → pos 0 ≡ belowZero z
 zero-read z f t = go z (rw (toZ-ofZ w64 z f) at t)
   where
-    go : (z : ℤ) → ltZ z (pos 0) ≡ false → pos 0 ≡ negativePart z
+    go : (z : ℤ) → ltZ z (pos 0) ≡ false → pos 0 ≡ belowZero z
     go (pos n) t = refl
     go (negsuc n) t = absurd (true≢false t)
 
@@ -167,7 +162,7 @@ minus-back z w e f a b =
     let s = minus-size z w in
     rw (e, f) (back (z -ℤ w) (omega arith))
 
-pub less-back : (x r : ℤ) → Held x → Held r → r ≡ negativePart (again x) → again r ≡ negativePart x
+pub less-back : (x r : ℤ) → Held x → Held r → r ≡ belowZero (again x) → again r ≡ belowZero x
 less-back x r hx hr e = rw (held r hr, e, held x hx)
 
 -- ---- a literal's weight, where w is y or 0

@@ -12,7 +12,7 @@ use lib.Dec.{eqb}
 use lib.ListN.{length, set, length-set}
 use lib.IntN.{ℤ, pos, negℤ, natAbs, _+ℤ_, _-ℤ_}
 use borrow.Author.Tests.{eq-eqb, ne-eqb, eqb-true, eqb-false}
-use Rattle.judgement.specs.Integers.{negativePart}
+use Rattle.judgement.specs.Integers.{belowZero}
 use Rattle.judgement.specs.Meaning.{positive, negative, variableOf, isPositive}
 use Rattle.judgement.specs.Literals.{count, code, variable, holds, mentions}
 use Rattle.judgement.specs.Linear.{addend}
@@ -166,22 +166,22 @@ weighing-settled n D full t marks rest top list so =
 
 -- what is far below 0 moves as the remainder does
 moves-true : (r z : ℤ) (f : ℕ) → natAbs r ≤ 2 ^ 52 → natAbs z ≤ 2 ^ 16
-    → negativePart (r -ℤ pos (far + f) +ℤ z) -ℤ negativePart (r -ℤ pos (far + f)) ≡ r +ℤ z -ℤ r
+    → belowZero (r -ℤ pos (far + f) +ℤ z) -ℤ belowZero (r -ℤ pos (far + f)) ≡ r +ℤ z -ℤ r
 moves-true r z f hr hz =
     let o = r -ℤ pos (far + f) in
     let a = minus-parts r (pos (far + f)) in
     let b = sum-parts o z in
     let c = less-parts o in
     let d = less-parts (o +ℤ z) in
-    let g = minus-parts (negativePart (o +ℤ z)) (negativePart o) in
+    let g = minus-parts (belowZero (o +ℤ z)) (belowZero o) in
     let k = sum-parts r z in
     let l = minus-parts (r +ℤ z) r in
-    equal-parts (negativePart (o +ℤ z) -ℤ negativePart o) (r +ℤ z -ℤ r)
+    equal-parts (belowZero (o +ℤ z) -ℤ belowZero o) (r +ℤ z -ℤ r)
     (omega (arith, a, b, c, d, g, k, l, one-part o, one-part (o +ℤ z), one-part r, one-part z, size-parts r, size-parts z, hr, hz))
 
 -- and what is far above 0 adds nothing
 moves-false : (r z : ℤ) (f : ℕ) → natAbs r ≤ 2 ^ 52 → natAbs z ≤ 2 ^ 16 → f ≤ 2 ^ 48
-    → negativePart (r +ℤ (pos far -ℤ pos f) +ℤ z) -ℤ negativePart (r +ℤ (pos far -ℤ pos f)) ≡ pos 0 -ℤ pos 0
+    → belowZero (r +ℤ (pos far -ℤ pos f) +ℤ z) -ℤ belowZero (r +ℤ (pos far -ℤ pos f)) ≡ pos 0 -ℤ pos 0
 moves-false r z f hr hz hf =
     let x = pos far -ℤ pos f in
     let o = r +ℤ x in
@@ -190,9 +190,9 @@ moves-false r z f hr hz hf =
     let b = sum-parts o z in
     let c = less-parts o in
     let d = less-parts (o +ℤ z) in
-    let g = minus-parts (negativePart (o +ℤ z)) (negativePart o) in
+    let g = minus-parts (belowZero (o +ℤ z)) (belowZero o) in
     let l = minus-parts (pos 0) (pos 0) in
-    equal-parts (negativePart (o +ℤ z) -ℤ negativePart o) (pos 0 -ℤ pos 0)
+    equal-parts (belowZero (o +ℤ z) -ℤ belowZero o) (pos 0 -ℤ pos 0)
     (omega (arith, e, a, b, c, d, g, l, one-part x, one-part o, one-part (o +ℤ z), one-part r, one-part z, size-parts r, size-parts z, hr, hz, hf))
 
 no-offset : (r : ℤ) → r +ℤ pos 0 ≡ r
@@ -256,14 +256,14 @@ module _ (n : ℕ) (D : List ℕ) (full : ℕ → ℕ) (rem : ℕ → ℤ) (t : 
 
     -- what is told of the numbers goes for the remainders
     pub met-told : (z : ℤ) → natAbs z ≤ 2 ^ 16
-        → negativePart (old +ℤ z) -ℤ negativePart old ≡ addend D u (rem u +ℤ z) -ℤ addend D u (rem u)
+        → belowZero (old +ℤ z) -ℤ belowZero old ≡ addend D u (rem u +ℤ z) -ℤ addend D u (rem u)
     unfolding addend
     met-told z h = rw (w .kept u a) (go (holds D (negative u)) (mentions D u))
       where
         go : (p m : Bool)
-            → negativePart (rem u +ℤ cond p (negℤ (pos (far + full u))) (cond m (pos far -ℤ pos (full u)) (pos 0)) +ℤ z)
-            -ℤ negativePart (rem u +ℤ cond p (negℤ (pos (far + full u))) (cond m (pos far -ℤ pos (full u)) (pos 0)))
-            ≡ cond p (rem u +ℤ z) (cond m (pos 0) (negativePart (rem u +ℤ z))) -ℤ cond p (rem u) (cond m (pos 0) (negativePart (rem u)))
+            → belowZero (rem u +ℤ cond p (negℤ (pos (far + full u))) (cond m (pos far -ℤ pos (full u)) (pos 0)) +ℤ z)
+            -ℤ belowZero (rem u +ℤ cond p (negℤ (pos (far + full u))) (cond m (pos far -ℤ pos (full u)) (pos 0)))
+            ≡ cond p (rem u +ℤ z) (cond m (pos 0) (belowZero (rem u +ℤ z))) -ℤ cond p (rem u) (cond m (pos 0) (belowZero (rem u)))
         go true m = moves-true (rem u) z (full u) small h
         go false true = moves-false (rem u) z (full u) small h paid
         go false false = rw (no-offset (rem u))

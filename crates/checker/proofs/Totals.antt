@@ -2,7 +2,7 @@
 -- Assumes nothing.
 use Prim.Native.Nat.{ℕ, zero, suc, _+_, _*_, _^_, _≤_, _<_}
 use mathlib.Core.Path.{_≡_, refl, sym, _∙_, ap}
-use mathlib.Core.Bool.{Bool, true, false, not, cond, _&&_}
+use mathlib.Core.Bool.{Bool, true, false, not, cond, and-false}
 use mathlib.Core.List.{List}
 use native.Mathlib.Omega.{arith}
 use native.Mathlib.Nat.{mul-zero, mul-le-mul}
@@ -22,9 +22,8 @@ use Rattle.judgement.specs.Step.{bound, literals, tail, divisor, entryCount, we
 use Rattle.judgement.specs.Integers.{sumOfℤ, roundedUp}
 use Rattle.judgement.specs.Linear.{weightOf, remainder, entrySum, addend, addendSum, totalOf, total, linearCost, isWeighted, weightsFinding, linearBound}
 use Rattle.judgement.specs.Facts.{LiteralList}
-use Rattle.judgement.proofs.Laws.Scan.{and-l}
-use Rattle.judgement.proofs.Laws.Scan.{sum-times}
-use Rattle.judgement.proofs.Sound.Weighing.{negatives-by-variable}
+use Rattle.judgement.proofs.Laws.Scan.{and-l, sum-times}
+use Rattle.judgement.proofs.Laws.ByVariable.{negatives-by-variable}
 use Rattle.checker.specs.Weighing.{Settling, Weighing, fullOf, Entered, Weighable}
 use Rattle.checker.specs.Prices.{Prices}
 use Rattle.layout.proofs.Loops.{all-more, all-stop}
@@ -114,15 +113,11 @@ pub divisor-zero : (e : List ℕ) {x : ℕ} → x ≡ divisor e → x ≡ 0 → 
 unfolding isWeighted
 divisor-zero e h z = rw (← h, z)
 
-and-false : (b : Bool) → false ≡ b && false
-and-false true = refl
-and-false false = refl
-
 pub weight-zero : (e : List ℕ) (j : ℕ) {x : ℕ} → x ≡ numberAt e (2 + 6 * j + 4) 2 → x ≡ 0 → j < entryCount e → false ≡ isWeighted e
 unfolding isWeighted
 weight-zero e j h z l =
     let k : isWeight e (j + 1) ≡ false = rw (← weight-next e j h, z) in
-    rw (all-stop (isWeight e) j (entryCount e) l k) (and-false (not (eqb (divisor e) 0)))
+    rw (all-stop (isWeight e) j (entryCount e) l k) (sym (and-false (not (eqb (divisor e) 0))))
 
 pub weights-more : (e : List ℕ) (j : ℕ) {x : ℕ} → x ≡ numberAt e (2 + 6 * j + 4) 2 → (x ≡ 0 → ⊥) → allOf (isWeight e) j ≡ true
     → allOf (isWeight e) (j + 1) ≡ true

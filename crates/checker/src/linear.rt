@@ -1,7 +1,9 @@
-// Kind 5: weighted clauses, refusals 23 and 24. Each variable has a number, its remainder, which a literal of a cited clause moves; the
-// total follows by how far the number is below 0 before and after. A mark tells whether the step has set the number, so that none
+// Kind 5: weighted clauses, refusals 23 and 24. Each variable has a number that a literal of a cited clause moves: its remainder, or,
+// where the step settles it, a number far from 0 that is moved alike. The total follows by how far the number is below 0 before and
+// after. A mark tells whether the step has set the number, so that none
 // has to be cleared, and variables that no literal names cost no time: they add nothing, unless the step settles them as true.
 use crate::form;
+use crate::independent;
 use crate::marks;
 use crate::read;
 use crate::signed;
@@ -14,7 +16,7 @@ ghost use Prim.Native.Nat.{ℕ, _+_, _-_, _*_, _/_, _^_, _≤_, _<_};
 ghost use lib.IntN.{pos, natAbs, _+ℤ_, _-ℤ_};
 ghost use lib.ListN.{length, set};
 ghost use Rattle.judgement.specs.Finding.{_then_};
-ghost use Rattle.judgement.specs.Integers.{negativePart, roundedUp};
+ghost use Rattle.judgement.specs.Integers.{belowZero, roundedUp};
 ghost use Rattle.judgement.specs.Literals.{count};
 ghost use Rattle.judgement.specs.Sheet.{variables};
 ghost use Rattle.judgement.specs.declared.Kind.the-variants.{WeightedSet};
@@ -25,12 +27,6 @@ ghost use Rattle.checker.specs.Known.{formThen};
 ghost use Rattle.checker.specs.Marks.{mostCodes, Stale};
 ghost use Rattle.checker.specs.Prices.{priceAt, Prices, priceSum, Cheap};
 ghost use Rattle.checker.specs.Weighing.{Weighable, Entered, shift, negativeWeight, keptOf, Settling, Weighing, fullOf};
-
-// The mark of step k is k times this, as kind 3 has it.
-const APART: u64 = 4096;
-
-// What is below 0 in 64 bits is from here on.
-const HALF: u64 = 9223372036854775808;
 
 // Marks the variables that falsifying the list settles, sets their numbers far from 0, and sums what the list costs.
 fn settle(
@@ -72,12 +68,12 @@ fn meet(
     requires { ⌜ Stale 1024 (now marks) (t + 1) × (t < 2 ^ 62) × (length (now rest) ≡ 1024) × (length (now prices) ≡ mostCodes) × Among 1024 (c / 2) × (d < 2 ^ 16) × (y < 2 ^ 16) × (priceAt (now prices) (2 * (c / 2) + 1) < 2 ^ 32) × (natAbs (keptOf (now marks) (now rest) t (d * priceAt (now prices) (2 * (c / 2) + 1)) (c / 2)) < 2 ^ 60) ⌝ }
     ensures marked { λ _. ⌜ now (marks .exit) ≡ set (now (marks .entry)) (c / 2 - 1) t ⌝ }
     ensures kept { λ _. ⌜ now (rest .exit) ≡ set (now (rest .entry)) (c / 2 - 1) (keptOf (now (marks .entry)) (now (rest .entry)) t (d * priceAt (now (prices .entry)) (2 * (c / 2) + 1)) (c / 2) +ℤ shift c y) ⌝ }
-    ensures told { λ r. ⌜ r ≡ negativePart (keptOf (now (marks .entry)) (now (rest .entry)) t (d * priceAt (now (prices .entry)) (2 * (c / 2) + 1)) (c / 2) +ℤ shift c y) -ℤ negativePart (keptOf (now (marks .entry)) (now (rest .entry)) t (d * priceAt (now (prices .entry)) (2 * (c / 2) + 1)) (c / 2)) -ℤ pos (negativeWeight c y) ⌝ }
+    ensures told { λ r. ⌜ r ≡ belowZero (keptOf (now (marks .entry)) (now (rest .entry)) t (d * priceAt (now (prices .entry)) (2 * (c / 2) + 1)) (c / 2) +ℤ shift c y) -ℤ belowZero (keptOf (now (marks .entry)) (now (rest .entry)) t (d * priceAt (now (prices .entry)) (2 * (c / 2) + 1)) (c / 2)) -ℤ pos (negativeWeight c y) ⌝ }
 {
     let v = c / 2;
     let kept = rest[v - 1];
     let full = signed::natural(d * prices[2 * v + 1]);
-    let stale = std::num::wrapping_sub_u64(marks[v - 1], t) / HALF;
+    let stale = std::num::wrapping_sub_u64(marks[v - 1], t) / independent::HALF;
     let old = signed::one_of(stale as usize, kept, full);
     let w = (c % 2) as u64 * y;
     let new = signed::shifted(old, w, y);
@@ -181,7 +177,7 @@ fn weighted_finding(
         return Finding::Fault(23, k);
     }
     let list = step::whole_literals(b);
-    let t = APART * (k as u64);
+    let t = independent::APART * (k as u64);
     if step::whole_bound(b) != bound_by(marks, rest, prices, s, list, tail, t) {
         return Finding::Fault(24, k);
     }

@@ -5,7 +5,7 @@ ghost use mathlib.Core.Bool.{cond};
 ghost use Prim.Native.Nat.{_+_, _*_, _^_, _≤_, _<_};
 ghost use lib.Dec.{eqb};
 ghost use lib.IntN.{pos, natAbs, _+ℤ_, _-ℤ_};
-ghost use Rattle.judgement.specs.Integers.{negativePart, roundedUp};
+ghost use Rattle.judgement.specs.Integers.{belowZero, roundedUp};
 ghost use Rattle.checker.specs.Weighing.{farOf};
 
 // Where the remainder of a variable that the step settles is kept: so far from 0 that it stays on its side.
@@ -45,8 +45,8 @@ pub(crate) fn plus(x: i64, y: i64) -> i64
     x + y
 }
 
-pub(crate) fn negative_part(x: i64) -> i64
-    ensures { λ r. ⌜ r ≡ negativePart x ⌝ }
+pub(crate) fn below_zero(x: i64) -> i64
+    ensures { λ r. ⌜ r ≡ belowZero x ⌝ }
 {
     if x < 0 {
         return x;
@@ -65,9 +65,9 @@ pub(crate) fn shifted(x: i64, w: u64, y: u64) -> i64
 // What the total gains by it where the remainder goes from x to z.
 pub(crate) fn gained(x: i64, z: i64, w: u64) -> i64
     requires { ⌜ (natAbs x < 2 ^ 61) × (natAbs z < 2 ^ 61) × (w < 2 ^ 16) ⌝ }
-    ensures { λ r. ⌜ r ≡ negativePart z -ℤ negativePart x -ℤ pos w ⌝ }
+    ensures { λ r. ⌜ r ≡ belowZero z -ℤ belowZero x -ℤ pos w ⌝ }
 {
-    negative_part(z) - negative_part(x) - w as i64
+    below_zero(z) - below_zero(x) - w as i64
 }
 
 // The total divided by d, rounded up, and 0 where the total is not positive.

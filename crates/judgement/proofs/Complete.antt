@@ -4,6 +4,7 @@ pub mod Codes
 pub mod Paths
 pub mod Tree
 pub mod Bytes
+pub mod Tails
 pub mod Stored
 pub mod Tables
 pub mod Packed

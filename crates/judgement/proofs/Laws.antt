@@ -8,3 +8,4 @@ pub mod Buffer
 pub mod Truth
 pub mod Cost
 pub mod Integers
+pub mod ByVariable

@@ -11,16 +11,16 @@ sumOfℤ f zero = pos 0
 sumOfℤ f (suc n) = sumOfℤ f n +ℤ f (suc n)
 
 -- z where it is negative, else 0
-abbrev pub negativePart : ℤ → ℤ
-negativePart (pos n) = pos 0
-negativePart (negsuc n) = negsuc n
+abbrev pub belowZero : ℤ → ℤ
+belowZero (pos n) = pos 0
+belowZero (negsuc n) = negsuc n
 
--- z divided by d, rounded up; 0 where z is not positive
+-- z divided by d, which is 1 at least where this is asked, rounded up; 0 where z is not positive
 abbrev pub roundedUp : ℤ → ℕ → ℕ
 roundedUp (pos n) d = (n + (d - 1)) / d
 roundedUp (negsuc n) d = 0
 
--- x is the least number whose d-fold is not below z
-pub record LeastCover (z : ℤ) (d x : ℕ) : Type 0 where
+-- x is z divided by d and rounded up, or 0: the least number whose d-fold is not below z
+pub record IsRoundedUp (z : ℤ) (d x : ℕ) : Type 0 where
   pub covers : z ≤ℤ pos (d * x)
   pub least : (x ≡ 0) ⊎ (pos (d * (x - 1)) <ℤ z)

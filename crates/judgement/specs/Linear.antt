@@ -1,5 +1,5 @@
 -- Kind 5: weighted clauses (001, section 5.1.2), and refusals 23 and 24. D is the literals of the step, and e its tail: a divisor
--- and entries, each a clause and its weight. What may lie below zero is an integer.
+-- and entries, each a clause and its weight. What may lie below zero is in ℤ.
 -- Assumes nothing.
 use Prim.Native.Nat.{ℕ, _*_}
 use mathlib.Core.Bool.{Bool, not, cond, _&&_}
@@ -7,7 +7,7 @@ use mathlib.Core.List.{List}
 use lib.Dec.{eqb}
 use lib.IntN.{ℤ, pos, _+ℤ_, _-ℤ_, _*ℤ_}
 use Rattle.judgement.specs.Scan.{allOf, sumOf, countOf}
-use Rattle.judgement.specs.Integers.{sumOfℤ, negativePart, roundedUp}
+use Rattle.judgement.specs.Integers.{sumOfℤ, belowZero, roundedUp}
 use Rattle.judgement.specs.Meaning.{positive, negative, isPositive}
 use Rattle.judgement.specs.declared.Finding.{Finding}
 use Rattle.judgement.specs.Finding.{need}
@@ -19,7 +19,7 @@ use Rattle.judgement.specs.Step.{bound, literals, tail, divisor, entryCo
 abbrev pub entryClause : List ℕ → List ℕ → ℕ → List ℕ
 entryClause s e j = clause s (entryCites e j)
 
--- ---- of the first q entries
+-- ---- clauses and variables: of the first q entries, where q is given
 
 -- the weights of the clauses that hold the literal c, added up
 unfoldable pub weightOf : List ℕ → List ℕ → ℕ → ℕ → ℕ
@@ -41,12 +41,13 @@ entrySum s e q = sumOfℤ (λ j. pos (weight e j) *ℤ (pos 1 -ℤ pos (negative
 -- what variable v with the remainder r adds: all of it where falsifying D makes v true, nothing where it makes v false, and where
 -- D does not mention v, the remainder if it is negative
 unfoldable pub addend : List ℕ → ℕ → ℤ → ℤ
-addend D v r = cond (holds D (negative v)) r (cond (mentions D v) (pos 0) (negativePart r))
+addend D v r = cond (holds D (negative v)) r (cond (mentions D v) (pos 0) (belowZero r))
 
 -- what variables 1 to n with these remainders add
 unfoldable pub addendSum : List ℕ → ℕ → (ℕ → ℤ) → ℤ
 addendSum D n rem = sumOfℤ (λ v. addend D v (rem v)) n
 
+-- what these entries and the variables 1 to n add
 unfoldable pub totalOf : List ℕ → List ℕ → List ℕ → ℕ → ℤ
 totalOf s D e q = entrySum s e q +ℤ addendSum D (variables s) (remainder s e q)
 

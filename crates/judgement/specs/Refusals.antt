@@ -16,7 +16,7 @@ use Rattle.judgement.specs.Step.{bound, literals, tail, citedCount, divi
 use Rattle.judgement.specs.Kinds.{independentCost}
 use Rattle.judgement.specs.Facts.{Among, In, Mentions, ValidSheet, RecordLayout, StepLayout, Inference}
 use Rattle.judgement.specs.Facts.{citedClause, OpenYet, PositiveYet, Free, Unsettled, Weighted}
-use Rattle.judgement.specs.Integers.{LeastCover}
+use Rattle.judgement.specs.Integers.{IsRoundedUp}
 use Rattle.judgement.specs.Linear.{total}
 
 -- what a refusal can be told of
@@ -114,8 +114,8 @@ pub record Reached (s r : List ℕ) (k : ℕ) : Type 0 where
 
 -- what a step of kind 3 with the body b is refused by: one of the four; or 15, where all clauses that it cites fit and its bound is not the
 -- cost
-abbrev pub RefusedBy : List ℕ → List ℕ → ℕ → Type 0
-RefusedBy s b number =
+abbrev pub RefusedIndependent : List ℕ → List ℕ → ℕ → Type 0
+RefusedIndependent s b number =
     FirstDependent s b number
     ⊎ ((number ≡ 15)
     × ((j : ℕ) → Among (citedCount b) j → Fits s b j (literals b) (citedClause s b j))
@@ -132,8 +132,8 @@ pub data RefusedLinear (s b : List ℕ) (number : ℕ) : Type 0 where
   no-divisor : number ≡ 23 → divisor (tail b) ≡ 0 → RefusedLinear s b number
   -- a weight is 0
   no-weight : number ≡ 23 → (j : ℕ) → Among (entryCount (tail b)) j → weight (tail b) j ≡ 0 → RefusedLinear s b number
-  -- none is, and the bound is not the least that covers the total
-  other-bound : number ≡ 24 → Weighted (tail b) → (LeastCover (total s b) (divisor (tail b)) (bound b) → ⊥) → RefusedLinear s b number
+  -- none is, and the bound is not the total divided by d and rounded up
+  other-bound : number ≡ 24 → Weighted (tail b) → (IsRoundedUp (total s b) (divisor (tail b)) (bound b) → ⊥) → RefusedLinear s b number
 
 -- the number is one of those of kind 5
 abbrev pub isOfLinear : ℕ → Bool

@@ -1,5 +1,6 @@
 -- Which number each refusal has, where no starred case says it: 2, 3, 4, 5, 7, 8, 12 and 13 by a case each, 1 by a theorem, as
--- a file that is too long cannot be written out; 14 and 21 are in Dependence.antt. The changed bytes are counted from 0.
+-- a file that is too long cannot be written out; 14 and 21 are in Dependence.antt, 23 and 24 in Weights.antt. The changed
+-- bytes are counted from 0.
 -- Assumes nothing.
 use Prim.Native.Nat.{ℕ, _<_}
 use mathlib.Core.Path.{_≡_}

@@ -6,23 +6,23 @@ use mathlib.Core.Bool.{false}
 use mathlib.Core.List.{List, [], _∷_, _++_}
 use lib.Dec.{T}
 use Rattle.judgement.specs.Meaning.{positive, negative, none}
-use Rattle.judgement.specs.Writer.{bytesOf, numbersOf, pairsOf, joined, fileOf, sheetOf, stepOf, recordOf}
+use Rattle.judgement.specs.Writer.{bytesOf, numbersOf, pairsOf, joined, fileOf, sheetOf, stepOf, recordOf, entriesOf, weightedTail}
 use Rattle.judgement.specs.Judgement.{stepPart, shownPart}
 use Rattle.judgement.specs.Computed.{Case, accepted, refused, right, allRight}
 use Rattle.judgement.proofs.Cases.Starred.{clause, costStep, resolutionStep, sheetA, sheetC}
 
--- the clause with this number and its weight
-entry : ℕ → ℕ → List ℕ
-entry cited y = bytesOf 4 cited ++ bytesOf 2 y
+-- a clause by its number, and its weight
+abbrev Entry : Type 0
+Entry = ℕ × ℕ
 
-weightedStep : List ℕ → ℕ → ℕ → List (List ℕ) → List ℕ
-weightedStep codes bound d entries = stepOf 5 codes bound (bytesOf 2 d ++ joined entries)
+weightedStep : List ℕ → ℕ → ℕ → List Entry → List ℕ
+weightedStep codes bound d entries = stepOf 5 codes bound (weightedTail d entries)
 
 -- ---- 001's example 3: claim 1, paddle 1 alone open, and one step of kind 5
 
 recordW : ℕ → List ℕ
 recordW bound =
-    recordOf 1 (0x01 ∷ []) (weightedStep (positive 5 ∷ negative 6 ∷ []) bound 1 (entry 1 3 ∷ entry 2 4 ∷ entry 3 2 ∷ []) ∷ [])
+    recordOf 1 (0x01 ∷ []) (weightedStep (positive 5 ∷ negative 6 ∷ []) bound 1 ((1, 3) ∷ (2, 4) ∷ (3, 2) ∷ []) ∷ [])
 
 example3 : List Case
 example3 =
@@ -41,8 +41,8 @@ second s b number place =
       answer = refused number place;
     }
 
--- with this bound, and with no other that is next to it
-bounded : List ℕ → List ℕ → ℕ → ℕ → List (List ℕ) → List Case
+-- with this bound, and not with the next
+bounded : List ℕ → List ℕ → ℕ → ℕ → List Entry → List Case
 bounded s codes d bound entries =
     second s (weightedStep codes bound d entries) 8 3
     ∷ second s (weightedStep codes (bound + 1) d entries) 24 2
@@ -56,29 +56,31 @@ sheetH = sheetOf (4294967295 ∷ []) ([] ∷ clause (positive 1 ∷ []) ∷ [])
 totals : List Case
 totals =
     -- total 21, of which the remainders of 1 and 2 take 1 each: 10.5 is rounded up
-    bounded sheetC (positive 5 ∷ negative 6 ∷ []) 2 11 (entry 1 6 ∷ entry 2 8 ∷ entry 3 3 ∷ [])
-    ++ (second sheetC (weightedStep (positive 5 ∷ negative 6 ∷ []) 10 2 (entry 1 6 ∷ entry 2 8 ∷ entry 3 3 ∷ [])) 24 2 ∷ [])
+    bounded sheetC (positive 5 ∷ negative 6 ∷ []) 2 11 ((1, 6) ∷ (2, 8) ∷ (3, 3) ∷ [])
+    ++ (second sheetC (weightedStep (positive 5 ∷ negative 6 ∷ []) 10 2 ((1, 6) ∷ (2, 8) ∷ (3, 3) ∷ [])) 24 2 ∷ [])
     -- total 20: 10 is not rounded
-    ++ bounded sheetC (positive 5 ∷ negative 6 ∷ []) 2 10 (entry 1 5 ∷ entry 2 8 ∷ entry 3 2 ∷ [])
+    ++ bounded sheetC (positive 5 ∷ negative 6 ∷ []) 2 10 ((1, 5) ∷ (2, 8) ∷ (3, 2) ∷ [])
     -- total 0: clause 2 has one negative literal, so that its weight counts 0 times
-    ++ bounded sheetC [] 1 0 (entry 2 2 ∷ [])
+    ++ bounded sheetC [] 1 0 ((2, 2) ∷ [])
     -- total -1: clause 3 has two
-    ++ bounded sheetC [] 1 0 (entry 3 1 ∷ [])
+    ++ bounded sheetC [] 1 0 ((3, 1) ∷ [])
     -- total 9: remainders below 0 of variables that are settled false, which add nothing
-    ++ bounded sheetC (positive 1 ∷ positive 3 ∷ positive 5 ∷ []) 1 9 (entry 1 9 ∷ [])
+    ++ bounded sheetC (positive 1 ∷ positive 3 ∷ positive 5 ∷ []) 1 9 ((1, 9) ∷ [])
     -- total 1: of one that is settled true, 1, which adds its remainder of -2
-    ++ bounded sheetC (negative 1 ∷ []) 1 1 (entry 1 3 ∷ [])
+    ++ bounded sheetC (negative 1 ∷ []) 1 1 ((1, 3) ∷ [])
     -- total 10: negative literals of variables that are settled true, which add 8 and 9
-    ++ bounded sheetC (negative 1 ∷ negative 2 ∷ []) 1 10 (entry 3 7 ∷ [])
+    ++ bounded sheetC (negative 1 ∷ negative 2 ∷ []) 1 10 ((3, 7) ∷ [])
     -- total 7: the weight 1, and the cost of 6, which is settled true and stands in no cited clause
-    ++ bounded sheetC (negative 6 ∷ []) 1 7 (entry 1 1 ∷ [])
-    -- the greatest weight of a clause without literals, and the greatest divisor, weight and cost
-    ++ bounded sheetH [] 1 65535 (entry 1 65535 ∷ [])
-    ++ bounded sheetH (negative 1 ∷ []) 65535 4294967295 (entry 2 65535 ∷ [])
+    ++ bounded sheetC (negative 6 ∷ []) 1 7 ((1, 1) ∷ [])
+    -- the greatest weight of a clause without literals, with the divisor 1 and with one of two bytes
+    ++ bounded sheetH [] 1 65535 ((1, 65535) ∷ [])
+    ++ bounded sheetH [] 300 219 ((1, 65535) ∷ [])
+    -- the greatest divisor, weight and cost
+    ++ bounded sheetH (negative 1 ∷ []) 65535 4294967295 ((2, 65535) ∷ [])
 
 -- ---- refusals
 
-told : ℕ → ℕ → List (List ℕ) → Case
+told : ℕ → ℕ → List Entry → Case
 told number d entries = second sheetC (weightedStep [] 9 d entries) number 2
 
 tailed : List ℕ → Case
@@ -86,17 +88,22 @@ tailed tail = second sheetC (stepOf 5 [] 0 tail) 8 2
 
 refusals : List Case
 refusals =
-    -- 23 for the divisor, and for the first, a middle and the last weight; the bound, 9, is always wrong as well
-    told 23 0 (entry 1 1 ∷ [])
-    ∷ told 23 1 (entry 1 0 ∷ [])
-    ∷ told 23 1 (entry 1 1 ∷ entry 2 0 ∷ entry 3 1 ∷ [])
-    ∷ told 23 1 (entry 1 1 ∷ entry 2 1 ∷ entry 3 0 ∷ [])
-    ∷ told 24 65535 (entry 3 65535 ∷ [])
+    -- 23 for the divisor, and for the only weight, a middle and the last one; the bound, 9, is always wrong as well
+    told 23 0 ((1, 1) ∷ [])
+    ∷ told 23 1 ((1, 0) ∷ [])
+    ∷ told 23 1 ((1, 1) ∷ (2, 0) ∷ (3, 1) ∷ [])
+    ∷ told 23 1 ((1, 1) ∷ (2, 1) ∷ (3, 0) ∷ [])
+    ∷ told 24 65535 ((3, 65535) ∷ [])
+    -- 9 for each byte of a clause's number, and for the fourth clause of 3
+    ∷ told 9 1 ((257, 1) ∷ [])
+    ∷ told 9 1 ((65537, 1) ∷ [])
+    ∷ told 9 1 ((16777217, 1) ∷ [])
+    ∷ told 9 1 ((1, 1) ∷ (2, 1) ∷ (3, 1) ∷ (4, 1) ∷ [])
     -- 9 before 23: clause 0, clause 4 of 3, one clause twice, and falling ones
-    ∷ told 9 0 (entry 0 1 ∷ [])
-    ∷ told 9 1 (entry 1 0 ∷ entry 4 1 ∷ [])
-    ∷ told 9 1 (entry 2 0 ∷ entry 2 1 ∷ [])
-    ∷ told 9 0 (entry 2 1 ∷ entry 1 1 ∷ [])
+    ∷ told 9 0 ((0, 1) ∷ [])
+    ∷ told 9 1 ((1, 0) ∷ (4, 1) ∷ [])
+    ∷ told 9 1 ((2, 0) ∷ (2, 1) ∷ [])
+    ∷ told 9 0 ((2, 1) ∷ (1, 1) ∷ [])
     -- 8 before 9: tails that are not a divisor and one or more entries, and kind 6
     ∷ tailed []
     ∷ tailed (bytesOf 2 1)
@@ -104,7 +111,7 @@ refusals =
     ∷ tailed (bytesOf 2 1 ++ bytesOf 5 0)
     ∷ tailed (bytesOf 2 1 ++ bytesOf 7 0)
     ∷ tailed (bytesOf 2 1 ++ bytesOf 12 0 ++ bytesOf 4 0)
-    ∷ second sheetC (stepOf 6 [] 0 (bytesOf 2 1 ++ entry 1 1)) 8 2
+    ∷ second sheetC (stepOf 6 [] 0 (weightedTail 1 ((1, 1) ∷ []))) 8 2
     ∷ []
 
 -- ---- accepted: every two of three variables in a clause, of which half the weights prove 1.5
@@ -121,23 +128,23 @@ recordG =
     recordOf
     3
     (0x01 ∷ [])
-    (weightedStep (positive 2 ∷ []) 3 1 (entry 1 3 ∷ []) ∷ weightedStep (negative 2 ∷ []) 8 1 (entry 2 3 ∷ []) ∷ resolutionStep [] 3 1 2 2 ∷ [])
+    (weightedStep (positive 2 ∷ []) 3 1 ((1, 3) ∷ []) ∷ weightedStep (negative 2 ∷ []) 8 1 ((2, 3) ∷ []) ∷ resolutionStep [] 3 1 2 2 ∷ [])
 
 passing : List Case
 passing =
     record {
       sheet = sheetV;
-      «record» = recordOf 2 (0x03 ∷ []) (weightedStep [] 2 2 (entry 1 1 ∷ entry 2 1 ∷ entry 3 1 ∷ []) ∷ []);
+      «record» = recordOf 2 (0x03 ∷ []) (weightedStep [] 2 2 ((1, 1) ∷ (2, 1) ∷ (3, 1) ∷ []) ∷ []);
       answer = accepted 2 2 1;
     }
     ∷ record { sheet = sheetA; «record» = recordG; answer = accepted 3 1 3 }
     ∷ []
 
 weights : T (allRight (example3 ++ totals ++ refusals ++ passing))
-unfolding bytesOf numbersOf pairsOf joined fileOf sheetOf stepOf recordOf none clause costStep resolutionStep sheetA sheetC entry weightedStep recordW example3 second bounded sheetH totals told tailed refusals sheetV recordG passing allRight
+unfolding bytesOf numbersOf pairsOf joined fileOf sheetOf stepOf recordOf none clause costStep resolutionStep sheetA sheetC entriesOf weightedTail weightedStep recordW example3 second bounded sheetH totals told tailed refusals sheetV recordG passing allRight
 weights = tt
 
 -- of a step of kind 5 its literals are shown
 shows-weighted : shownPart sheetA recordG 2 ≡ record { «in_sheet» = false; start = 71; size = 2 }
-unfolding right stepPart shownPart bytesOf numbersOf pairsOf joined fileOf stepOf recordOf entry weightedStep resolutionStep sheetA recordG
+unfolding right stepPart shownPart bytesOf numbersOf pairsOf joined fileOf stepOf recordOf entriesOf weightedTail weightedStep resolutionStep sheetA recordG
 shows-weighted = refl

@@ -1,4 +1,5 @@
--- Kind 5: a step passes its tests exactly when its divisor and weights are not 0 and its bound is the least that covers its total.
+-- Kind 5: a step passes its tests exactly when its divisor and weights are not 0 and its bound is its total divided
+-- by the divisor and rounded up.
 -- Assumes nothing.
 use Prim.Native.Nat.{ℕ, _+_, _*_, _%_, _≤_}
 use mathlib.Core.Path.{_≡_}
@@ -10,7 +11,7 @@ use lib.ListN.{length}
 use lib.Dec.{eqb}
 use borrow.Author.Tests.{eq-eqb, ne-eqb, eqb-true, eqb-false, le-leb, leb-true, not-true}
 use Rattle.judgement.specs.Scan.{allOf}
-use Rattle.judgement.specs.Integers.{LeastCover}
+use Rattle.judgement.specs.Integers.{IsRoundedUp}
 use Rattle.judgement.specs.Number.{numberAt}
 use Rattle.judgement.specs.Finding.{_then_}
 use Rattle.judgement.specs.Sheet.{clauses}
@@ -50,11 +51,11 @@ weighted-is e h =
 
 -- ---- the bound
 
-pub bound-cover : (s b : List ℕ) → Weighted (tail b) → bound b ≡ linearCost s b → LeastCover (total s b) (divisor (tail b)) (bound b)
+pub bound-cover : (s b : List ℕ) → Weighted (tail b) → bound b ≡ linearCost s b → IsRoundedUp (total s b) (divisor (tail b)) (bound b)
 unfolding linearCost
 bound-cover s b h e = rw e (rounded-cover (total s b) (divisor (tail b)) (omega (arith, h .divides)))
 
-pub cover-bound : (s b : List ℕ) → Weighted (tail b) → LeastCover (total s b) (divisor (tail b)) (bound b) → bound b ≡ linearCost s b
+pub cover-bound : (s b : List ℕ) → Weighted (tail b) → IsRoundedUp (total s b) (divisor (tail b)) (bound b) → bound b ≡ linearCost s b
 unfolding linearCost
 cover-bound s b h c = cover-rounded (total s b) (divisor (tail b)) (bound b) (omega (arith, h .divides)) c
 

@@ -13,7 +13,7 @@ use lib.Signed.{_<ℤ_}
 use lib.IntN.{ℤ, pos, negsuc, negℤ, subℕ, natAbs, _+ℤ_, _-ℤ_, _*ℤ_}
 use borrow.Author.Tests.{lt-ltb, le-ltb}
 use Rattle.judgement.specs.Scan.{sumOf}
-use Rattle.judgement.specs.Integers.{sumOfℤ, negativePart, roundedUp, LeastCover}
+use Rattle.judgement.specs.Integers.{sumOfℤ, belowZero, roundedUp, IsRoundedUp}
 
 -- what z has above zero, and what it lacks
 abbrev pub up : ℤ → ℕ
@@ -74,7 +74,7 @@ times-diff y (negsuc n) a b h =
     let (u, d) = neg-parts (pos (y * suc n)) in
     rw (e, mul-add) (omega arith)
 
-pub less-diff : (z : ℤ) (a b : ℕ) → Diff z a b → Diff (negativePart z) 0 (b - a)
+pub less-diff : (z : ℤ) (a b : ℕ) → Diff z a b → Diff (belowZero z) 0 (b - a)
 less-diff (pos n) a b h = omega arith
 less-diff (negsuc n) a b h = omega arith
 
@@ -124,7 +124,7 @@ rounded-covers n d l =
     omega (arith, e, less-d)
 
 -- rounded up, the quotient is the least cover
-pub rounded-cover : (z : ℤ) (d : ℕ) → 1 ≤ d → LeastCover z d (roundedUp z d)
+pub rounded-cover : (z : ℤ) (d : ℕ) → 1 ≤ d → IsRoundedUp z d (roundedUp z d)
 rounded-cover (negsuc n) d l = record { covers = record { le = tt }; least = inl refl }
 rounded-cover (pos n) d l = record {
   covers = record { le = le→leb n _ (rounded-covers n d l) };
@@ -136,7 +136,7 @@ rounded-cover (pos n) d l = record {
     go (suc x) h = let one-less : suc x - 1 ≡ x = omega arith in inr record { lt = lt→ltb _ n (rw one-less (rounded-least n d x l h)) }
 
 -- and there is no other
-pub cover-rounded : (z : ℤ) (d x : ℕ) → 1 ≤ d → LeastCover z d x → x ≡ roundedUp z d
+pub cover-rounded : (z : ℤ) (d x : ℕ) → 1 ≤ d → IsRoundedUp z d x → x ≡ roundedUp z d
 cover-rounded (negsuc n) d x l c = elim (c .least) [ inl e ↦ e | inr h ↦ absurd (h .lt) ]
 cover-rounded (pos n) d x l c =
     let most = rounded-most n d x l (leb→le n (d * x) (c .covers .le)) in
@@ -159,7 +159,7 @@ cover-rounded (pos n) d x l c =
             absurd (omega (arith, above, e, below-d))
 
 -- the least cover of a minus b does not exceed what covers it
-pub cover-diff : (z : ℤ) (a b d x y : ℕ) → Diff z a b → 1 ≤ d → LeastCover z d x → a ≤ d * y + b → x ≤ y
+pub cover-diff : (z : ℤ) (a b d x y : ℕ) → Diff z a b → 1 ≤ d → IsRoundedUp z d x → a ≤ d * y + b → x ≤ y
 cover-diff z a b d x y h l c m = rw (cover-rounded z d x l c) (go z h)
   where
     go : (z : ℤ) → Diff z a b → roundedUp z d ≤ y
@@ -180,7 +180,7 @@ minus-parts z w = minus-diff z w (up z) (down z) (up w) (down w) refl refl
 pub same-parts : {z w : ℤ} → z ≡ w → (up z ≡ up w) × (down z ≡ down w)
 same-parts e = (rw e, rw e)
 
-pub less-parts : (z : ℤ) → (up (negativePart z) ≡ 0) × (down (negativePart z) ≡ down z)
+pub less-parts : (z : ℤ) → (up (belowZero z) ≡ 0) × (down (belowZero z) ≡ down z)
 less-parts (pos n) = (refl, refl)
 less-parts (negsuc n) = (refl, refl)
 

@@ -24,7 +24,7 @@ use Rattle.judgement.specs.Kinds.{copyFinding, costBound, independentCos
 use Rattle.judgement.specs.Linear.{weightsFinding, linearBound}
 use Rattle.judgement.specs.Judgement.{finding, judgement}
 use Rattle.judgement.specs.Facts.{Among, In, Mentions, citedClause, Free, CitesClauses}
-use Rattle.judgement.specs.Refusals.{Dependent, made-true, negative-yet, all-settled, shared-yet, FirstDependent, Reached, RefusedBy, isOfIndependent}
+use Rattle.judgement.specs.Refusals.{Dependent, made-true, negative-yet, all-settled, shared-yet, FirstDependent, Reached, RefusedIndependent, isOfIndependent}
 use Rattle.judgement.specs.Demands.{WhichIndependent}
 use Rattle.judgement.proofs.Laws.Scan.{clash, or-e, or-none-l, or-none-r, false-i, all-fails, any-at}
 use Rattle.judgement.proofs.Laws.Findings.{IsFine, fine-is, need-true, not-fine, over-found, found-over, then-found}
@@ -150,7 +150,7 @@ first-dependent s b k N P = (
 )
 
 -- all cited clauses, and then the bound
-set-refused : (s b : List ℕ) (k N P : ℕ) → ((dependence s b k then independentBound s b k) ≡ Fault N P) ↔ ((P ≡ k) × RefusedBy s b N)
+set-refused : (s b : List ℕ) (k N P : ℕ) → ((dependence s b k then independentBound s b k) ≡ Fault N P) ↔ ((P ≡ k) × RefusedIndependent s b N)
 unfolding independentBound
 set-refused s b k N P = (
   λ e. elim (then-found (dependence s b k) (independentBound s b k) N P e) [
@@ -165,7 +165,7 @@ set-refused s b k N P = (
 )
   where
     other : (same : Bool) → eqb (bound b) (independentCost s b) ≡ same → IsFine (dependence s b k) → need same 15 k ≡ Fault N P
-        → (P ≡ k) × RefusedBy s b N
+        → (P ≡ k) × RefusedIndependent s b N
     other true e fine q = absurd (not-fine q)
     other false e fine q =
         (cc, inr (cc, dependence-fits s b k fine, eqb-false (bound b) (independentCost s b) e))
@@ -191,14 +191,14 @@ module _ (s r : List ℕ) where
   ruleset plain = (then-faults, over-faults, need-faults, fine-faults)
 
   kind-found : (N P k : ℕ) (K : Kind) → isOfIndependent N ≡ true → kindFinding K s r k ≡ Fault N P
-      → (K ≡ IndependentSet) × RefusedBy s (step s r k) N
+      → (K ≡ IndependentSet) × RefusedIndependent s (step s r k) N
   unfolding kindFinding copyFinding costBound resolutionFinding pivotFinding resolventFinding lesserBound weightsFinding linearBound
   kind-found N P k K four = go K
     where
       not-plain : (f : Finding) → Plain f → f ≡ Fault N P → ⊥
       not-plain f plain e = clash four (fault-has (λ N P. isOfIndependent N ≡ false) f plain e)
 
-      go : (K : Kind) → kindFinding K s r k ≡ Fault N P → (K ≡ IndependentSet) × RefusedBy s (step s r k) N
+      go : (K : Kind) → kindFinding K s r k ≡ Fault N P → (K ≡ IndependentSet) × RefusedIndependent s (step s r k) N
       go Copy e = absurd (not-plain _ (search plain) e)
       go Cost e = absurd (not-plain _ (search plain) e)
       go IndependentSet e = (refl, set-refused s (step s r k) k N P .0 e .1)
@@ -222,13 +222,13 @@ module _ (s r : List ℕ) where
       }
 
   independent-reached : (N k : ℕ) → isOfIndependent N ≡ true → finding s r ≡ Fault N k
-      → Reached s r k × CitesClauses s (step s r k) × RefusedBy s (step s r k) N
+      → Reached s r k × CitesClauses s (step s r k) × RefusedIndependent s (step s r k) N
   independent-reached N k four e =
       let f = finding-kind s r N k (of-kind N four) e in
       let (kind, refused) = kind-found N k k (kindOf (step s r k)) four (f .found) in
       (f .reached, citing-by k (f .form) (f .cites) kind, refused)
 
-  reached-independent : (N k : ℕ) → Reached s r k → CitesClauses s (step s r k) → RefusedBy s (step s r k) N
+  reached-independent : (N k : ℕ) → Reached s r k → CitesClauses s (step s r k) → RefusedIndependent s (step s r k) N
       → finding s r ≡ Fault N k
   unfolding citation citesFine kindFinding
   reached-independent N k h citing refused =

@@ -17,7 +17,7 @@ use Rattle.judgement.proofs.Laws.Membership.{holds-in}
 use Rattle.judgement.proofs.Laws.Truth.{model-or-breaks}
 use Rattle.judgement.proofs.Laws.Cost.{cost-below-none}
 use Rattle.judgement.proofs.Sound.Entail.{stated, copy-entailed, cost-entailed, independent-entailed, resolution-entailed}
-use Rattle.judgement.proofs.Sound.Weighing.{linear-entailed}
+use Rattle.judgement.proofs.Sound.LeastWeighed.{linear-entailed}
 
 -- ---- every step
 

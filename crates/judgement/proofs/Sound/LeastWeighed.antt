@@ -4,29 +4,30 @@
 -- Assumes nothing.
 use Prim.Native.Nat.{ℕ, zero, suc, _+_, _-_, _*_, _/_, _%_, _≤_, _<_}
 use mathlib.Core.Path.{_≡_, refl, sym, ap, _∙_}
-use mathlib.Core.Bool.{Bool, true, false, not, cond, _||_}
+use mathlib.Core.Bool.{Bool, true, false, not, cond}
 use mathlib.Core.List.{List}
 use mathlib.Core.Logic.{_⊎_, inl, inr}
 use native.Mathlib.Omega.{arith}
-use native.Mathlib.Nat.{le-refl}
 use native.Mathlib.Decide.{decLt}
-use lib.Dec.{eqb, ltb, le→leb}
+use lib.Dec.{ltb, le→leb}
 use lib.IntN.{ℤ, pos, negsuc, _-ℤ_, _*ℤ_}
 use lib.Signed.{_≤ℤ_}
-use borrow.Author.Tests.{eq-eqb, ne-eqb, eqb-true, eqb-false, lt-ltb, le-ltb}
-use Rattle.judgement.specs.Scan.{anyOf, sumOf, one, countOf}
-use Rattle.judgement.specs.Meaning.{Assignment, positive, negative, variableOf, isPositive, literalTrue, cost, Falsifies}
+use borrow.Author.Tests.{eqb-true, eqb-false, lt-ltb, le-ltb}
+use Rattle.judgement.specs.Scan.{sumOf, one, countOf}
+use Rattle.judgement.specs.Meaning.{Assignment, positive, negative, variableOf, isPositive, literalTrue, cost, Satisfies, Falsifies, Entailed}
 use Rattle.judgement.specs.Literals.{count, code, holds, mentions}
 use Rattle.judgement.specs.Sheet.{variables, clauses, costOf, problemOf}
-use Rattle.judgement.specs.Step.{literals, tail, divisor, entryCount, entryCites, weight}
+use Rattle.judgement.specs.Step.{bound, literals, tail, divisor, entryCount, entryCites, weight}
 use Rattle.judgement.specs.Integers.{sumOfℤ}
 use Rattle.judgement.specs.Linear.{entryClause, weightOf, negatives, total}
-use Rattle.judgement.specs.Facts.{Among, In, LiteralList, ValidSheet, trueLiterals, weighed, LeastWeighed}
-use Rattle.judgement.proofs.Laws.Scan.{which, false-i, any-some, sum-same, sum-split, sum-zero, sum-most, sum-times, sum-change}
+use Rattle.judgement.specs.Facts.{Among, In, LiteralList, ValidSheet, Linear, trueLiterals, weighed, LeastWeighed}
+use Rattle.judgement.proofs.Laws.Scan.{which, false-i, sum-same, sum-split, sum-zero, sum-most, sum-times, sum-more}
 use Rattle.judgement.proofs.Laws.Membership.{holds-in, in-mentions, in-mention}
 use Rattle.judgement.proofs.Laws.Truth.{positive-true, negative-true}
-use Rattle.judgement.proofs.Laws.Integers.{Diff, pos-diff, add-diff, sum-diff, equal-parts}
-use Rattle.judgement.proofs.Sound.Weighing.{trueSum, true-split, true-times, negatives-by-variable, takes, adds, no-value, credit, debit, gain, loss, entry-diff, total-diff, variable-covered}
+use Rattle.judgement.proofs.Laws.Integers.{cover-diff, Diff, pos-diff, add-diff, sum-diff, equal-parts}
+use Rattle.judgement.proofs.Laws.ByVariable.{literals-by-variable, negatives-by-variable}
+use Rattle.judgement.proofs.Sound.Entail.{stated}
+use Rattle.judgement.proofs.Sound.Weighing.{trueSum, true-split, true-times, takes, adds, no-value, credit, debit, gain, loss, entry-diff, total-diff, variable-covered}
 
 -- ---- integers by their differences
 
@@ -40,82 +41,6 @@ at-most-diff (negsuc n) (negsuc m) a b c e h k l = record { le = le→leb m n (o
 -- and they are equal where these are
 equal-diff : (z w : ℤ) (a b c e : ℕ) → Diff z a b → Diff w c e → a + e ≡ c + b → z ≡ w
 equal-diff z w a b c e h k l = equal-parts z w (omega (arith, h, k, l))
-
--- ---- a sum over the literals of a list, by variable
-
--- the value of the literal c, if it stands among the first i of C
-abbrev valueIn : List ℕ → (ℕ → ℕ) → ℕ → ℕ → ℕ
-valueIn C f i c = cond (anyOf (λ h. eqb (code C h) c) i) (f c) 0
-
--- the next literal brings no value but its own
-other-literal : (C : List ℕ) (f : ℕ → ℕ) (i c : ℕ) → (code C (suc i) ≡ c → ⊥) → valueIn C f i c ≡ valueIn C f (suc i) c
-unfolding anyOf
-other-literal C f i c ne = rw (ne-eqb (code C (suc i)) c ne) (go (anyOf (λ h. eqb (code C h) c) i))
-  where
-    go : (b : Bool) → cond b (f c) 0 ≡ cond (b || false) (f c) 0
-    go true = refl
-    go false = refl
-
--- and its own, as it has not stood before
-new-literal : (n : ℕ) (C : List ℕ) (f : ℕ → ℕ) (i c : ℕ) → LiteralList n C → i < count C → code C (suc i) ≡ c
-    → valueIn C f i c + f c ≡ valueIn C f (suc i) c
-unfolding anyOf
-new-literal n C f i c list l e = rw (eq-eqb (code C (suc i)) c e, fresh) (omega arith)
-  where
-    fresh : anyOf (λ h. eqb (code C h) c) i ≡ false
-    fresh = false-i (anyOf (λ h. eqb (code C h) c) i) (λ t.
-        let (h, w, q) = any-some (λ h. eqb (code C h) c) i t in
-        let r = list .variables .rising h (suc i) (w .0) (omega (arith, w .1)) l in
-        let same = eqb-true (code C h) c q in
-        absurd (omega (arith, r, same, e)))
-
--- a list in form has one literal of each of its variables, so that a sum over its literals is one over variables
-literals-by-variable : (n : ℕ) (C : List ℕ) (f : ℕ → ℕ) → LiteralList n C
-    → sumOf (λ i. f (code C i)) (count C)
-    ≡ sumOf (λ v. cond (holds C (positive v)) (f (positive v)) 0 + cond (holds C (negative v)) (f (negative v)) 0) n
-unfolding holds anyOf sumOf
-literals-by-variable n C f list = go (count C) (le-refl (count C))
-  where
-    -- the values of the literals of v among the first i
-    before : ℕ → ℕ → ℕ
-    before i v = valueIn C f i (positive v) + valueIn C f i (negative v)
-
-    next : (i : ℕ) → i < count C → sumOf (before i) n + f (code C (suc i)) ≡ sumOf (before (suc i)) n
-    next i l =
-        sum-change (before i) (before (suc i)) (f c) n (c / 2) (list .variables .range (suc i) (omega arith, omega (arith, l)))
-        others (here (which (isPositive c)))
-      where
-        c : ℕ
-        c = code C (suc i)
-
-        others : (v : ℕ) → (v ≡ c / 2 → ⊥) → before i v ≡ before (suc i) v
-        others v ne =
-            let p = other-literal C f i (positive v) (λ q. ne (omega (arith, q))) in
-            let m = other-literal C f i (negative v) (λ q. ne (omega (arith, q))) in
-            omega (arith, p, m)
-
-        here : (isPositive c ≡ true) ⊎ (isPositive c ≡ false) → before i (c / 2) + f c ≡ before (suc i) (c / 2)
-        here (inl p) =
-            let even = eqb-true (c % 2) 0 p in
-            let e : c ≡ positive (c / 2) = omega (arith, even) in
-            let own = new-literal n C f i (positive (c / 2)) list l e in
-            let other = other-literal C f i (negative (c / 2)) (λ q. omega (arith, q, even)) in
-            let same = ap f e in
-            omega (arith, own, other, same)
-        here (inr p) =
-            let odd = eqb-false (c % 2) 0 p in
-            let e : c ≡ negative (c / 2) = omega (arith, odd) in
-            let own = new-literal n C f i (negative (c / 2)) list l e in
-            let other = other-literal C f i (positive (c / 2)) (λ q. odd (omega (arith, q))) in
-            let same = ap f e in
-            omega (arith, own, other, same)
-
-    go : (i : ℕ) → i ≤ count C → sumOf (λ h. f (code C h)) i ≡ sumOf (before i) n
-    go zero l = sym (sum-zero (before 0) n (λ v. refl))
-    go (suc i) l =
-        let a = go i (omega (arith, l)) in
-        let b = next i l in
-        omega (arith, a, b)
 
 -- ---- one clause
 
@@ -380,3 +305,41 @@ total-least s b valid list cites = record { reached = (best, cheapest-falsifies 
         let most = sum-most (had s D e α) (lacked s D e α) n (λ v. variable-covered α D v (a v) (p v) falsified) in
         at-most-diff (total s b) (weighed s e α) (totalUp s D e) (totalDown s D e) (weighedUp s e α) (weighedDown s e α)
         (total-diff s D e q) (weighed-diff s e α) (omega (arith, total-weighed s D e α lists, most))
+
+-- ---- a model is weighed at most d times its cost, so that what a step of kind 5 states is entailed
+
+-- a number counted once or more
+times-most : (y k : ℕ) → 1 ≤ k → y ≤ y * k
+times-most y zero h = absurd (omega (arith, h))
+times-most y (suc k) h = omega arith
+
+-- a satisfied clause has a true literal
+some-true : (α : Assignment) (C : List ℕ) → Satisfies α (holds C) → 1 ≤ trueLiterals α C
+some-true α C (c, held, t) =
+    let (i, w, e) = holds-in C c held in
+    let more = sum-more (λ k. 0) (λ i. one (literalTrue α (code C i))) 1 (count C) i w (λ k. omega arith) (rw (e, t) (omega arith)) in
+    omega (arith, more)
+
+-- so that the weights are not more than the weights times these numbers
+weights-paid : (s e : List ℕ) (α : Assignment) (q : ℕ) → ((j : ℕ) → Among q j → Satisfies α (holds (entryClause s e j)))
+    → sumOf (weight e) q ≤ sumOf (λ j. weight e j * trueLiterals α (entryClause s e j)) q
+unfolding sumOf
+weights-paid s e α zero each = omega arith
+weights-paid s e α (suc q) each =
+    let earlier = weights-paid s e α q (λ j w. each j (w .0, omega (arith, w .1))) in
+    let last = times-most (weight e (suc q)) (trueLiterals α (entryClause s e (suc q))) (some-true α (entryClause s e (suc q)) (each (suc q) (omega arith, omega arith))) in
+    omega (arith, earlier, last)
+
+pub linear-entailed : (s b : List ℕ) → ValidSheet s → Linear s b → Entailed (problemOf s) (stated b)
+unfolding total
+linear-entailed s b valid linear α model falsified =
+    let D = literals b in
+    let e = tail b in
+    let n = variables s in
+    let q = entryCount e in
+    let cites = linear .citing .cites .range in
+    let paid = weights-paid s e α q (λ j w. model (entryCites e j) (cites j w .0) (cites j w .1)) in
+    let most = sum-most (had s D e α) (lacked s D e α) n (λ v. variable-covered α D v (credit s e q v) (debit s e q v) falsified) in
+    let same = total-weighed s D e α (λ j w. valid .lists (entryCites e j) (cites j w)) in
+    cover-diff (total s b) (totalUp s D e) (totalDown s D e) (divisor e) (bound b) (cost (problemOf s) α) (total-diff s D e q)
+    (omega (arith, linear .weighted .divides)) (linear .bound-is) (omega (arith, paid, most, same))

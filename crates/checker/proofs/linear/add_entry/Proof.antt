@@ -7,7 +7,7 @@ use mathlib.Core.List.{List}
 use native.Mathlib.Omega.{arith}
 use lib.IntN.{ℤ, pos, natAbs, _+ℤ_, _-ℤ_}
 use lib.ListN.{set}
-use Rattle.judgement.specs.Integers.{negativePart}
+use Rattle.judgement.specs.Integers.{belowZero}
 use mir.Syntax.{w64}
 use mir.Val.{toZ}
 use Rattle.judgement.specs.Meaning.{variableOf}
@@ -168,7 +168,7 @@ module _ (c : tie.After-code-in-form Inv-loop μ-loop) where
         rw price-is
         (met-state n D (fullOf (S head) (E head)) (rem head) (args .args .t) (head .loop .marks) (head .loop .rest) x (y head) (args .pre .0 .n) inside w)
 
-    told : {r : ℤ} → r ≡ negativePart (old +ℤ shift x (y head)) -ℤ negativePart old -ℤ pos (negativeWeight x (y head))
+    told : {r : ℤ} → r ≡ belowZero (old +ℤ shift x (y head)) -ℤ belowZero old -ℤ pos (negativeWeight x (y head))
         → r ≡ addend D (variableOf x) (rem head (variableOf x) +ℤ shift x (y head)) -ℤ addend D (variableOf x) (rem head (variableOf x)) -ℤ pos (negativeWeight x (y head))
     told e =
         e ∙ rw (
