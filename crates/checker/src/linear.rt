@@ -1,7 +1,7 @@
 // Kind 5: weighted clauses, refusals 23 and 24. Each variable has a number that a literal of a cited clause moves: its remainder, or,
 // where the step settles it, a number far from 0 that is moved alike. The total follows by how far the number is below 0 before and
-// after. A mark tells whether the step has set the number, so that none
-// has to be cleared, and variables that no literal names cost no time: they add nothing, unless the step settles them as true.
+// after. A mark tells whether the step has set the number, so that none has to be cleared, and a variable that neither the step nor a
+// cited clause names costs no time: it adds nothing.
 use crate::form;
 use crate::independent;
 use crate::marks;

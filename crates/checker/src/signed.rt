@@ -70,7 +70,7 @@ pub(crate) fn gained(x: i64, z: i64, w: u64) -> i64
     below_zero(z) - below_zero(x) - w as i64
 }
 
-// The total divided by d, rounded up, and 0 where the total is not positive.
+// The least number whose d-fold is not below the total.
 pub(crate) fn rounded_up(total: i64, d: u64) -> u64
     requires { ⌜ (natAbs total < 2 ^ 62) × (1 ≤ d) × (d < 2 ^ 16) ⌝ }
     ensures { λ r. ⌜ r ≡ roundedUp total d ⌝ }

@@ -25,8 +25,8 @@ entryClause s e j = clause s (entryCites e j)
 unfoldable pub weightOf : List ℕ → List ℕ → ℕ → ℕ → ℕ
 weightOf s e q c = sumOf (λ j. cond (holds (entryClause s e j) c) (weight e j) 0) q
 
--- the remainder of variable v: d times its cost, minus the weights of the clauses that hold it positive, plus those of the
--- clauses that hold it negative
+-- the remainder of variable v: its cost d times, from which the clauses that hold it positive take their weights, and to which those
+-- that hold it negative add theirs
 unfoldable pub remainder : List ℕ → List ℕ → ℕ → ℕ → ℤ
 remainder s e q v = pos (divisor e * costOf s v) -ℤ pos (weightOf s e q (positive v)) +ℤ pos (weightOf s e q (negative v))
 
@@ -57,7 +57,7 @@ totalOf s D e q = entrySum s e q +ℤ addendSum D (variables s) (remainder s e q
 unfoldable pub total : List ℕ → List ℕ → ℤ
 total s b = totalOf s (literals b) (tail b) (entryCount (tail b))
 
--- its bound: the total divided by d, rounded up, or 0
+-- its bound: the least number whose d-fold is not below the total
 unfoldable pub linearCost : List ℕ → List ℕ → ℕ
 linearCost s b = roundedUp (total s b) (divisor (tail b))
 

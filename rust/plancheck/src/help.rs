@@ -30,8 +30,8 @@ Prints the proved checker's line, what it says in plain words, and the place tha
 and the clauses, costs or steps that it cites. Where an independent set is none, the clause at fault comes first, with what would
 mend the step. Exit codes as with judge.
 
-For a weighted step a table shows how its bound comes about. A variable's remainder is the divisor times its cost, minus the weights
-of the cited clauses that hold it positive, plus those of the clauses that hold it negative. A variable adds its remainder where it
+For a weighted step a table shows how its bound comes about. A variable's remainder begins as the divisor times its
+cost; each cited clause takes its weight away where it has the variable positive, and adds it where it has it negative. A variable adds its remainder where it
 is settled true, nothing where it is settled false, and where it is unsettled its remainder if that is below 0. A cited clause adds
 its weight times (1 - its negative literals). If the divisor or a weight is 0, or the bound is another, mends come last.
 ";

@@ -71,7 +71,7 @@ fn about_step(number: u64, place: u64) -> String {
         17 => format!("Resolvent: the literals of step {place} are not those that are left of the two cited steps, or a variable stands there both ways."),
         18 => format!("Lesser bound: the bound of step {place} is not the lesser of the two bounds that it cites."),
         23 => format!("Weights: step {place} divides by 0, or gives a clause the weight 0, where 1 is the least."),
-        24 => format!("Linear bound: the bound of step {place} is not its total divided by its divisor and rounded up, or 0 where the total is not positive."),
+        24 => format!("Linear bound: the bound of step {place} is not the least number that gives its total or more when it is multiplied by its divisor."),
         _ => format!("Close: step {place} is the last and has to have no literals and a bound that is not below the claim."),
     }
 }

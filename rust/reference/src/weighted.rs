@@ -108,8 +108,7 @@ fn share(remainder: i128, variable: u32, literals: &BTreeSet<Literal>) -> i128 {
     }
 }
 
-/// The bound is the least number, from 0 on, whose product with the divisor reaches the total: the quotient rounded
-/// up, or 0 where the total is not positive. The product rises with the bound, so it is enough to look one below.
+/// The bound is the least number, from 0 on, whose product with the divisor reaches the total. The product rises with the bound, so it is enough to look one below.
 fn is_linear_bound(bound: u64, total: i128, divisor: i128) -> bool {
     let reaches = |candidate: i128| total <= divisor * candidate;
     let bound = i128::from(bound);
