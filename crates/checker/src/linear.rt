@@ -36,7 +36,7 @@ fn settle(
     part: &[u8],
     t: u64,
 ) -> u64
-    requires { ⌜ Stale 1024 (now marks) t × (length (now rest) ≡ 1024) × (length (now prices) ≡ mostCodes) × LiteralList 1024 (now part) × Cheap (now prices) (now part) × (t < 2 ^ 62) ⌝ }
+    requires { ⌜ Stale 1024 (now marks) t × (length (now rest) ≡ 1024) × (length (now prices) ≡ mostCodes) × LiteralList 1024 (now part) × Cheap (now prices) (now part) ⌝ }
     ensures settled { λ _. ⌜ Settling (now (part .entry)) (count (now (part .entry))) t (now (marks .exit)) (now (rest .exit)) ⌝ }
     ensures cost { λ r. ⌜ (r ≡ priceSum (now (prices .entry)) (now (part .entry))) × (r ≤ 2 ^ 42) ⌝ }
 {

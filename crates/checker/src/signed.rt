@@ -1,5 +1,5 @@
-// Signed sums, each with the bounds that keep it in 64 bits. None has a branch that the processor would have to guess: the signs of
-// literals and of remainders follow no pattern.
+// Signed sums, each with the bounds that keep it in 64 bits. Those that a loop over literals calls become no branch, which the processor
+// would have to guess: the signs of literals and of remainders follow no pattern.
 ghost use mathlib.Core.Path.{_≡_};
 ghost use mathlib.Core.Bool.{cond};
 ghost use Prim.Native.Nat.{_+_, _*_, _^_, _≤_, _<_};

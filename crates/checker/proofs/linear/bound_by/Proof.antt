@@ -60,7 +60,6 @@ settle-requires c κs =
       p .1 .size,
       list-within (variables (a .args .s .now)) 1024 (p .0 .n) (p .0 .list),
       cheap (a .args .s .now) (a .args .prices .now) (a .args .list .now) bytes (p .1) (p .0 .list),
-      p .5,
     )
 
 mul-natural : tie.Need-mul-natural Inv-loop μ-loop
