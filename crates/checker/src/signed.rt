@@ -1,4 +1,4 @@
-// Signed sums, each with the bounds that keep it in 64 bits. Those that a loop over literals calls become no branch, which the processor
+// Signed numbers: each operation has the bounds that keep it in 64 bits. Those that a loop over literals calls become no branch, which the processor
 // would have to guess: the signs of literals and of remainders follow no pattern.
 ghost use mathlib.Core.Path.{_≡_};
 ghost use mathlib.Core.Bool.{cond};
@@ -8,7 +8,7 @@ ghost use lib.IntN.{pos, natAbs, _+ℤ_, _-ℤ_};
 ghost use Rattle.judgement.specs.Integers.{belowZero, roundedUp};
 ghost use Rattle.checker.specs.Weighing.{farOf};
 
-// Where the remainder of a variable that the step settles is kept: so far from 0 that it stays on its side.
+// Where the number of a variable that the step settles begins: so far from 0 that it stays on its side.
 const FAR: i64 = 576460752303423488;
 
 // A number that is not negative.

@@ -1,4 +1,5 @@
--- What is true can be accepted: the decision tree, and its steps written as a record.
+-- What is true can be accepted: the decision tree, and its steps written as a record. And that the tails which the tree does not
+-- have, those of kinds 3 and 5, are read as they are written.
 pub mod Typed
 pub mod Codes
 pub mod Paths

@@ -15,7 +15,7 @@ abbrev pub belowZero : ℤ → ℤ
 belowZero (pos n) = pos 0
 belowZero (negsuc n) = negsuc n
 
--- z divided by d, which is 1 at least where this is asked, rounded up; 0 where z is not positive
+-- z divided by d, rounded up; 0 where z is not positive. Of d = 0 nothing is meant: 23 is told before this counts
 abbrev pub roundedUp : ℤ → ℕ → ℕ
 roundedUp (pos n) d = (n + (d - 1)) / d
 roundedUp (negsuc n) d = 0

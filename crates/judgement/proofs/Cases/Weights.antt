@@ -24,6 +24,19 @@ recordW : ℕ → List ℕ
 recordW bound =
     recordOf 1 (0x01 ∷ []) (weightedStep (positive 5 ∷ negative 6 ∷ []) bound 1 ((1, 3) ∷ (2, 4) ∷ (3, 2) ∷ []) ∷ [])
 
+-- the bytes of the step, as docs/FORMATS.md prints them: this fixes the order of the fields, which the reader and the writer could
+-- change together
+writes-weighted :
+    weightedStep (positive 5 ∷ negative 6 ∷ []) 11 1 ((1, 3) ∷ (2, 4) ∷ (3, 2) ∷ [])
+    ≡ 0x05 ∷ 0x00 ∷ 0x02 ∷ 0x00 ∷ 0x0B ∷ 0x00 ∷ 0x00 ∷ 0x00 ∷ 0x00 ∷ 0x00 ∷ 0x00 ∷ 0x00
+    ∷ 0x0A ∷ 0x00 ∷ 0x0D ∷ 0x00 ∷ 0x01 ∷ 0x00
+    ∷ 0x01 ∷ 0x00 ∷ 0x00 ∷ 0x00 ∷ 0x03 ∷ 0x00
+    ∷ 0x02 ∷ 0x00 ∷ 0x00 ∷ 0x00 ∷ 0x04 ∷ 0x00
+    ∷ 0x03 ∷ 0x00 ∷ 0x00 ∷ 0x00 ∷ 0x02 ∷ 0x00
+    ∷ []
+unfolding bytesOf numbersOf entriesOf weightedTail stepOf weightedStep
+writes-weighted = refl
+
 example3 : List Case
 example3 =
     record { sheet = sheetC; «record» = recordW 11; answer = refused 19 1 }  -- the step passes, and has literals
@@ -94,11 +107,12 @@ refusals =
     ∷ told 23 1 ((1, 1) ∷ (2, 0) ∷ (3, 1) ∷ [])
     ∷ told 23 1 ((1, 1) ∷ (2, 1) ∷ (3, 0) ∷ [])
     ∷ told 24 65535 ((3, 65535) ∷ [])
-    -- 9 for each byte of a clause's number, and for the fourth clause of 3
+    -- 9 for each byte of a clause's number, and for the fourth clause of 3, with one behind it too
     ∷ told 9 1 ((257, 1) ∷ [])
     ∷ told 9 1 ((65537, 1) ∷ [])
     ∷ told 9 1 ((16777217, 1) ∷ [])
     ∷ told 9 1 ((1, 1) ∷ (2, 1) ∷ (3, 1) ∷ (4, 1) ∷ [])
+    ∷ told 9 1 ((1, 1) ∷ (2, 1) ∷ (3, 1) ∷ (4, 1) ∷ (5, 1) ∷ [])
     -- 9 before 23: clause 0, clause 4 of 3, one clause twice, and falling ones
     ∷ told 9 0 ((0, 1) ∷ [])
     ∷ told 9 1 ((1, 0) ∷ (4, 1) ∷ [])
@@ -122,13 +136,17 @@ sheetV =
     (1 ∷ 1 ∷ 1 ∷ [])
     (clause (positive 1 ∷ positive 2 ∷ []) ∷ clause (positive 1 ∷ positive 3 ∷ []) ∷ clause (positive 2 ∷ positive 3 ∷ []) ∷ [])
 
--- claim 3 on sheet A by two steps of kind 5, which settle variable 2 either way
+-- claim 3 on sheet A by two steps of kind 5, which settle variable 2 either way, behind one that settles both variables
 recordG : List ℕ
 recordG =
     recordOf
     3
     (0x01 ∷ [])
-    (weightedStep (positive 2 ∷ []) 3 1 ((1, 3) ∷ []) ∷ weightedStep (negative 2 ∷ []) 8 1 ((2, 3) ∷ []) ∷ resolutionStep [] 3 1 2 2 ∷ [])
+    (weightedStep (positive 1 ∷ positive 2 ∷ []) 3 1 ((1, 3) ∷ [])
+    ∷ weightedStep (positive 2 ∷ []) 3 1 ((1, 3) ∷ [])
+    ∷ weightedStep (negative 2 ∷ []) 8 1 ((2, 3) ∷ [])
+    ∷ resolutionStep [] 3 2 3 2
+    ∷ [])
 
 passing : List Case
 passing =
@@ -137,7 +155,7 @@ passing =
       «record» = recordOf 2 (0x03 ∷ []) (weightedStep [] 2 2 ((1, 1) ∷ (2, 1) ∷ (3, 1) ∷ []) ∷ []);
       answer = accepted 2 2 1;
     }
-    ∷ record { sheet = sheetA; «record» = recordG; answer = accepted 3 1 3 }
+    ∷ record { sheet = sheetA; «record» = recordG; answer = accepted 3 1 4 }
     ∷ []
 
 weights : T (allRight (example3 ++ totals ++ refusals ++ passing))
@@ -145,6 +163,6 @@ unfolding bytesOf numbersOf pairsOf joined fileOf sheetOf stepOf recordOf none c
 weights = tt
 
 -- of a step of kind 5 its literals are shown
-shows-weighted : shownPart sheetA recordG 2 ≡ record { «in_sheet» = false; start = 71; size = 2 }
+shows-weighted : shownPart sheetA recordG 1 ≡ record { «in_sheet» = false; start = 57; size = 4 }
 unfolding right stepPart shownPart bytesOf numbersOf pairsOf joined fileOf stepOf recordOf entriesOf weightedTail weightedStep resolutionStep sheetA recordG
 shows-weighted = refl

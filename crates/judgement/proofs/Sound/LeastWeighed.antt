@@ -1,6 +1,6 @@
 -- Kind 5: the total is the least, over the assignments that falsify the step's literals, of d times the cost and of each cited
--- clause its weight times 1 minus the number of its true literals. So the total, which is defined
--- by remainders, is the best bound that these weights give.
+-- clause its weight times 1 minus the number of its true literals. So the total, which is defined by remainders, is the best bound that
+-- these weights give; and what a step of kind 5 states is entailed, since a model pays for the weights.
 -- Assumes nothing.
 use Prim.Native.Nat.{ℕ, zero, suc, _+_, _-_, _*_, _/_, _%_, _≤_, _<_}
 use mathlib.Core.Path.{_≡_, refl, sym, ap, _∙_}

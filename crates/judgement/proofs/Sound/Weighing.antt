@@ -1,4 +1,5 @@
--- Kind 5: the total as a difference of natural numbers, and that a variable adds no more to it than a model pays for it.
+-- Kind 5: the total as a difference of natural numbers, and that a variable adds no more to it than an assignment that falsifies the
+-- step's literals pays for it.
 -- Assumes nothing.
 use Prim.Native.Nat.{ℕ, _+_, _-_, _*_, _%_, _≤_}
 use mathlib.Core.Path.{_≡_, refl}
@@ -151,7 +152,7 @@ settled-false α D v falsified h m =
         let odd = eqb-false (code D i % 2) 0 p in
         absurd (clash (in-holds D (negative v) (i, w, omega (arith, odd, e))) h)
 
--- the total has no more of a variable than a model pays for it
+-- the total has no more of a variable than an assignment that falsifies D pays for it
 pub variable-covered : (α : Assignment) (D : List ℕ) (v a p : ℕ) → Falsifies α (holds D)
     → gain D v a + cond (α v) p 0 ≤ loss D v a p + cond (α v) a 0
 variable-covered α D v a p falsified = go (which (holds D (negative v))) (which (mentions D v))
