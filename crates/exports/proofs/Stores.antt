@@ -13,12 +13,13 @@ three (x ∷ y ∷ []) h a b c = absurd (omega arith)
 three (x ∷ y ∷ z ∷ []) h a b c = refl
 three (x ∷ y ∷ z ∷ u ∷ l) h a b c = absurd (omega arith)
 
-pub five : (l : List ℕ) → length l ≡ 5 → (a b c d e : ℕ)
-    → set (set (set (set (set l 0 a) 1 b) 2 c) 3 d) 4 e ≡ a ∷ b ∷ c ∷ d ∷ e ∷ []
-five [] h a b c d e = absurd (omega arith)
-five (x ∷ []) h a b c d e = absurd (omega arith)
-five (x ∷ y ∷ []) h a b c d e = absurd (omega arith)
-five (x ∷ y ∷ z ∷ []) h a b c d e = absurd (omega arith)
-five (x ∷ y ∷ z ∷ u ∷ []) h a b c d e = absurd (omega arith)
-five (x ∷ y ∷ z ∷ u ∷ v ∷ []) h a b c d e = refl
-five (x ∷ y ∷ z ∷ u ∷ v ∷ w ∷ l) h a b c d e = absurd (omega arith)
+pub six : (l : List ℕ) → length l ≡ 6 → (a b c d e f : ℕ)
+    → set (set (set (set (set (set l 0 a) 1 b) 2 c) 3 d) 4 e) 5 f ≡ a ∷ b ∷ c ∷ d ∷ e ∷ f ∷ []
+six [] h a b c d e f = absurd (omega arith)
+six (x ∷ []) h a b c d e f = absurd (omega arith)
+six (x ∷ y ∷ []) h a b c d e f = absurd (omega arith)
+six (x ∷ y ∷ z ∷ []) h a b c d e f = absurd (omega arith)
+six (x ∷ y ∷ z ∷ u ∷ []) h a b c d e f = absurd (omega arith)
+six (x ∷ y ∷ z ∷ u ∷ v ∷ []) h a b c d e f = absurd (omega arith)
+six (x ∷ y ∷ z ∷ u ∷ v ∷ w ∷ []) h a b c d e f = refl
+six (x ∷ y ∷ z ∷ u ∷ v ∷ w ∷ o ∷ l) h a b c d e f = absurd (omega arith)

@@ -7,7 +7,7 @@ use Rattle.judgement.specs.declared.Answer.{Answer}
 use Rattle.judgement.specs.declared.Part.{Part}
 
 abbrev pub answerNumbers : Answer → List ℕ
-answerNumbers a = a .number ∷ a .place ∷ a .cost ∷ a .«open_count» ∷ a .«step_count» ∷ []
+answerNumbers a = a .number ∷ a .place ∷ a .cost ∷ a .«open_count» ∷ a .«step_count» ∷ a .gap ∷ []
 
 abbrev pub partNumbers : Part → List ℕ
 partNumbers p = cond (p .«in_sheet») 1 0 ∷ p .start ∷ p .size ∷ []

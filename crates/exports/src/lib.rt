@@ -9,7 +9,7 @@ ghost use Rattle.judgement.specs.Place.{Inside};
 ghost use Rattle.exports.specs.Numbers.{answerNumbers, partNumbers};
 
 fn put_answer(a: Answer, out: &mut [u64])
-    requires { ⌜ length (now out) ≡ 5 ⌝ }
+    requires { ⌜ length (now out) ≡ 6 ⌝ }
     ensures { λ _. ⌜ now (out .exit) ≡ answerNumbers a ⌝ }
 {
     out[0] = a.number as u64;
@@ -17,6 +17,7 @@ fn put_answer(a: Answer, out: &mut [u64])
     out[2] = a.cost;
     out[3] = a.open_count as u64;
     out[4] = a.step_count as u64;
+    out[5] = a.gap;
 }
 
 // 1 for the sheet, 0 for the record.
@@ -38,9 +39,9 @@ fn put_part(p: Part, out: &mut [u64])
     out[2] = p.size as u64;
 }
 
-// Number, place, cost, open count and step count of the answer to the two files.
+// Number, place, cost, open count, step count and gap of the answer to the two files.
 #[no_mangle]
-pub extern "C" fn plan_judge(sheet: &[u8], record: &[u8], answer: &mut [u64; 5])
+pub extern "C" fn plan_judge(sheet: &[u8], record: &[u8], answer: &mut [u64; 6])
     ensures { λ _. ⌜ now (answer .exit) ≡ answerNumbers (judgement (now (sheet .entry)) (now («record» .entry))) ⌝ }
 {
     put_answer(checker::judge(sheet, record), answer);

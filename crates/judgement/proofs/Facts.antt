@@ -6,5 +6,6 @@ pub mod IndependentSet
 pub mod Resolvent
 pub mod WeightedSet
 pub mod Inferences
+pub mod Close
 pub mod Accepted
 pub mod Shown

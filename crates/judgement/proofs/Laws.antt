@@ -1,6 +1,7 @@
 -- Laws of the definitions that every other proof cites.
 pub mod Scan
 pub mod Findings
+pub mod Answers
 pub mod Membership
 pub mod Models
 pub mod Lists

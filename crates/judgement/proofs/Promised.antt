@@ -1,8 +1,9 @@
--- Demand 3: what acceptance says of every valid sheet, and which claims about a sheet of at most 16 variables are accepted.
+-- Demand 3: what acceptance says of every valid sheet, and which claims about a sheet of at most 16 variables are accepted; and what
+-- "within" says.
 -- Assumes nothing.
-use Prim.Native.Nat.{ℕ, _*_, _≤_, _<_}
+use Prim.Native.Nat.{ℕ, _-_, _*_, _≤_, _<_}
 use mathlib.Core.Path.{_≡_, refl, sym, _∙_}
-use mathlib.Core.Bool.{false}
+use mathlib.Core.Bool.{true, false}
 use mathlib.Core.List.{List}
 use native.Mathlib.Omega.{arith}
 use native.Mathlib.Nat.{le-refl}
@@ -12,22 +13,42 @@ use Rattle.judgement.specs.Meaning.{Assignment, cost, Model, Least, Unsa
 use Rattle.judgement.specs.Sheet.{variables, problemOf}
 use Rattle.judgement.specs.Record.{assigned, assignmentSize}
 use Rattle.judgement.specs.Writer.{assignmentOf, recordOf}
-use Rattle.judgement.specs.Facts.{ValidSheet}
-use Rattle.judgement.specs.Demands.{IsBytes, Accepted, Sound, SomeSteps, Complete}
-use Rattle.judgement.proofs.Facts.Accepted.{exactly-when}
+use Rattle.judgement.specs.Facts.{ValidSheet, Acceptable}
+use Rattle.judgement.specs.Judgement.{judgement, saysLeast, saysWithin, accepts}
+use Rattle.judgement.specs.Demands.{IsBytes, Sound, SoundWithin, SomeSteps, Complete}
+use Rattle.judgement.proofs.Laws.Answers.{accepts-passes, least-accepts, accepts-least, within-passes}
+use Rattle.judgement.proofs.Facts.Accepted.{exactly-when, passes-before}
+use Rattle.judgement.proofs.Order.Shape.{shape}
 use Rattle.judgement.proofs.Laws.Cost.{cost-below-none}
-use Rattle.judgement.proofs.Sound.Claim.{bound-holds, sound-facts}
+use Rattle.judgement.proofs.Sound.Claim.{bound-holds, sound-facts, within-facts}
 use Rattle.judgement.proofs.Complete.Typed.{bodiesOf}
 use Rattle.judgement.proofs.Complete.Tree.{tree}
 use Rattle.judgement.proofs.Complete.Packed.{packed-length, packed-bytes, clear-bytes}
 use Rattle.judgement.proofs.Complete.Written.{record-claim, record-packed, record-clear, written-bytes, written-acceptable}
 use Rattle.judgement.proofs.Complete.Least.{Agree, model-local, cost-local, least-exists}
 
-pub sound : (s r : List ℕ) → IsBytes s → Sound s r
+pub sound : (s r : List ℕ) → IsBytes s → Sound s r (judgement s r)
 sound s r bytes = record {
-  least = λ ok. sound-facts s r bytes (exactly-when s r .0 ok) .0;
-  none-exists = λ ok. sound-facts s r bytes (exactly-when s r .0 ok) .1;
+  least = λ ok. sound-facts s r bytes (exactly-when s r .accepted .0 ok) .0;
+  none-exists = λ ok. sound-facts s r bytes (exactly-when s r .accepted .0 ok) .1;
 }
+
+pub sound-within : (s r : List ℕ) → SoundWithin s r (judgement s r)
+sound-within s r ok =
+    let shaped = shape s r in
+    let cost-is = shaped .passed (within-passes (judgement s r) ok) .1 in
+    let gap-is = shaped .gap-is ok in
+    let (model, claimed, below) = within-facts s r (exactly-when s r .within .0 ok) in
+    (model, claimed ∙ sym cost-is, omega (arith, cost-is, gap-is), λ β m. omega (arith, cost-is, gap-is, below β m))
+
+-- so there is a least cost, and it lies between C minus G and C
+pub least-between : (s r : List ℕ) → saysWithin (judgement s r) ≡ true
+    → (L : ℕ) × Least (problemOf s) L × (judgement s r .cost - judgement s r .gap ≤ L) × (L ≤ judgement s r .cost)
+least-between s r ok =
+    let (model, cost-is, small, below) = sound-within s r ok in
+    let (L, least) = least-exists s (passes-before s r (within-passes (judgement s r) ok) .stored .sheet) (assigned r) model in
+    let (β, mb, e) = least .reached in
+    (L, least, omega (arith, below β mb, e), omega (arith, least .below (assigned r) model, cost-is))
 
 -- ---- a model's record
 
@@ -42,22 +63,32 @@ stored-spare : (c n : ℕ) (α : Assignment) (bodies : List (List ℕ)) (v : ℕ
 stored-spare c n α bodies v l h = record-packed c n α bodies v (omega arith) h ∙ rw (lt-leb v n l)
 
 module _ (s : List ℕ) (bytes : IsBytes s) (valid : ValidSheet s) (few : variables s ≤ 16) where
-  -- accepted, so not dearer than any model, the cheapest among them
+  -- least, so not dearer than any model, the cheapest among them
   least-of : (α : Assignment) → Model (problemOf s) α → (L : ℕ) → Least (problemOf s) L
-      → SomeSteps Accepted s (cost (problemOf s) α) (assignmentOf (variables s) α) → cost (problemOf s) α ≡ L
+      → SomeSteps saysLeast judgement s (cost (problemOf s) α) (assignmentOf (variables s) α) → cost (problemOf s) α ≡ L
   least-of α m L least (bodies, are-bytes, ok) =
       let c = cost (problemOf s) α in
       let small = cost-below-none s bytes (valid .n .1) α in
       let claim-is = record-claim c (assignmentOf (variables s) α) bodies (omega (arith, small)) in
       let (β, mb, e) = least .reached in
       let r : List ℕ = recordOf c (assignmentOf (variables s) α) bodies in
-      let high = bound-holds s r (exactly-when s r .0 ok) β mb in
+      let high = bound-holds s r (exactly-when s r .accepted .0 (least-accepts (judgement s r) ok)) β mb in
       let low = least .below α m in
       omega (arith, claim-is, e, high, low)
 
+  -- a record that is accepted with a cost for its claim is least
+  says-least : (c : ℕ) (bits : List ℕ) (bodies : List (List ℕ)) → c < none → Acceptable s (recordOf c bits bodies)
+      → saysLeast (judgement s (recordOf c bits bodies)) ≡ true
+  says-least c bits bodies small facts =
+      let r : List ℕ = recordOf c bits bodies in
+      let ok = exactly-when s r .accepted .1 facts in
+      let cost-is = shape s r .passed (accepts-passes (judgement s r) ok) .1 in
+      let claim-is = record-claim c bits bodies (omega (arith, small)) in
+      accepts-least (judgement s r) ok (λ e. omega (arith, small, cost-is, claim-is, e))
+
   -- the least, so the decision tree's steps close
   of-least : (α : Assignment) → Model (problemOf s) α → (L : ℕ) → Least (problemOf s) L → cost (problemOf s) α ≡ L
-      → SomeSteps Accepted s (cost (problemOf s) α) (assignmentOf (variables s) α)
+      → SomeSteps saysLeast judgement s (cost (problemOf s) α) (assignmentOf (variables s) α)
   of-least α m L least e =
       let (ts, derivation, reaches) = tree s bytes valid few in
       let c = cost (problemOf s) α in
@@ -67,7 +98,7 @@ module _ (s : List ℕ) (bytes : IsBytes s) (valid : ValidSheet s) (few : variab
       let floor = reaches c c-small (λ β mb. let h = least .below β mb in omega (arith, h, e)) in (
         bodiesOf ts,
         written-bytes c (assignmentOf (variables s) α) ts (packed-bytes (variables s) α),
-        exactly-when s (recordOf c (assignmentOf (variables s) α) (bodiesOf ts)) .1
+        says-least c (assignmentOf (variables s) α) (bodiesOf ts) small
             (written-acceptable s valid few ts derivation c c-small (assignmentOf (variables s) α) (packed-length (variables s) α)
             (stored-spare c (variables s) α (bodiesOf ts))
             (λ z. absurd (omega (arith, small, z)))
@@ -78,12 +109,12 @@ module _ (s : List ℕ) (bytes : IsBytes s) (valid : ValidSheet s) (few : variab
 
   -- ---- "none"
 
-  none-of : SomeSteps Accepted s none (replicate (assignmentSize (variables s)) 0) → Unsatisfiable (problemOf s)
+  none-of : SomeSteps accepts judgement s none (replicate (assignmentSize (variables s)) 0) → Unsatisfiable (problemOf s)
   none-of (bodies, are-bytes, ok) =
       sound s (recordOf none (replicate (assignmentSize (variables s)) 0) bodies) bytes .none-exists ok
       (record-claim none (replicate (assignmentSize (variables s)) 0) bodies (le-refl none))
 
-  of-none : Unsatisfiable (problemOf s) → SomeSteps Accepted s none (replicate (assignmentSize (variables s)) 0)
+  of-none : Unsatisfiable (problemOf s) → SomeSteps accepts judgement s none (replicate (assignmentSize (variables s)) 0)
   of-none breaks =
       let (ts, derivation, reaches) = tree s bytes valid few in
       let w = assignmentSize (variables s) in
@@ -91,7 +122,7 @@ module _ (s : List ℕ) (bytes : IsBytes s) (valid : ValidSheet s) (few : variab
       let floor = reaches none (le-refl none) (λ β mb. absurd (no-model β mb)) in (
         bodiesOf ts,
         written-bytes none (replicate w 0) ts (clear-bytes w),
-        exactly-when s (recordOf none (replicate w 0) (bodiesOf ts)) .1
+        exactly-when s (recordOf none (replicate w 0) (bodiesOf ts)) .accepted .1
             (written-acceptable s valid few ts derivation none (le-refl none) (replicate w 0) (length-replicate w 0)
             (λ v l h. clear v (omega arith) h)
             (λ z v u. clear v (u .0) (omega (arith, u .1)))

@@ -9,12 +9,12 @@ use mathlib.Core.List.{List, [], _∷_}
 use mathlib.Core.Logic.{_≢_, _⊎_}
 use lib.ListN.{getD}
 use lib.Dec.{eqb}
-use Rattle.judgement.specs.Meaning.{variableOf, isPositive, opposite, cost, Model, none}
-use Rattle.judgement.specs.Sheet.{clauses, problemOf}
-use Rattle.judgement.specs.Record.{claim, steps, assigned, step}
+use Rattle.judgement.specs.Meaning.{variableOf, isPositive, opposite}
+use Rattle.judgement.specs.Sheet.{clauses}
+use Rattle.judgement.specs.Record.{steps, step}
 use Rattle.judgement.specs.Step.{bound, literals, tail, citedCount, divisor, entryCount, weight}
 use Rattle.judgement.specs.Kinds.{independentCost}
-use Rattle.judgement.specs.Facts.{Among, In, Mentions, ValidSheet, RecordLayout, StepLayout, Inference}
+use Rattle.judgement.specs.Facts.{Among, In, Mentions, BeforeSteps, StepLayout, Inference}
 use Rattle.judgement.specs.Facts.{citedClause, OpenYet, PositiveYet, Free, Unsettled, Weighted}
 use Rattle.judgement.specs.Integers.{IsRoundedUp}
 use Rattle.judgement.specs.Linear.{total}
@@ -25,7 +25,7 @@ pub data Subject : Type 0 where
   aClause : Subject
   clauseOrWhole : Subject
   aStep : Subject
-  lastStep : Subject
+  theLast : Subject
   nothing : Subject
 
 -- p is the place of it: 0; a clause; a clause, or 0 if m is 0; a step; t
@@ -34,7 +34,7 @@ IsPlaceOf whole s r p = p ≡ 0
 IsPlaceOf aClause s r p = Among (clauses s) p
 IsPlaceOf clauseOrWhole s r p = Among (clauses s) p ⊎ ((clauses s ≡ 0) × (p ≡ 0))
 IsPlaceOf aStep s r p = Among (steps r) p
-IsPlaceOf lastStep s r p = (p ≡ steps r) × (1 ≤ p)
+IsPlaceOf theLast s r p = (p ≡ steps r) × (1 ≤ p)
 IsPlaceOf nothing s r p = ⊥
 
 -- the table, by number, from 0, which no refusal has; its last line is the greatest number
@@ -59,7 +59,7 @@ subjects =
     ∷ aStep  -- 16, pivot
     ∷ aStep  -- 17, resolvent
     ∷ aStep  -- 18, lesser bound
-    ∷ lastStep  -- 19, close
+    ∷ theLast  -- 19, close
     ∷ aStep  -- 20, unsettled shut
     ∷ aStep  -- 21, all settled
     ∷ aStep  -- 22, shared paddle
@@ -104,10 +104,7 @@ FirstDependent s b number =
 
 -- nothing is wrong before the tail of step k: the layouts, the assignment, the steps before it and its own layout
 pub record Reached (s r : List ℕ) (k : ℕ) : Type 0 where
-  pub sheet : ValidSheet s
-  pub layout : RecordLayout s r
-  pub model : claim r ≢ none → Model (problemOf s) (assigned r)
-  pub cost-is : claim r ≢ none → cost (problemOf s) (assigned r) ≡ claim r
+  pub stored : BeforeSteps s r
   pub among : Among (steps r) k
   pub forms : (h : ℕ) → 1 ≤ h → h ≤ k → StepLayout s (step s r h)
   pub inferences : (h : ℕ) → 1 ≤ h → h < k → Inference s r h

@@ -3,8 +3,8 @@
 use Prim.Native.Nat.{ℕ, zero, suc, _+_, _/_, _%_}
 use mathlib.Core.Bool.{cond}
 use mathlib.Core.List.{List, [], _∷_, _++_}
-use lib.Dec.{eqb, ltb}
-use Rattle.judgement.specs.Meaning.{none}
+use lib.Dec.{ltb}
+use Rattle.judgement.specs.Judgement.{saysLeast, saysNone, saysWithin}
 use Rattle.judgement.specs.declared.Answer.{Answer}
 use Rattle.lines.specs.Text.{codes}
 
@@ -28,13 +28,20 @@ leastLine cost opens steps =
 unfoldable pub noneLine : ℕ → List ℕ
 noneLine steps = codes "none open 0 steps " ++ decimalOf steps ++ codes "\n"
 
+unfoldable pub withinLine : ℕ → ℕ → ℕ → ℕ → List ℕ
+withinLine gap cost opens steps =
+    codes "within " ++ decimalOf gap ++ codes " cost " ++ decimalOf cost ++ codes " open " ++ decimalOf opens ++ codes " steps " ++ decimalOf steps
+    ++ codes "\n"
+
 unfoldable pub refusedLine : ℕ → ℕ → List ℕ
 refusedLine number place = codes "refused " ++ decimalOf number ++ codes " at " ++ decimalOf place ++ codes "\n"
 
 unfoldable pub lineOf : Answer → List ℕ
 lineOf a =
-    cond (eqb (a .number) 0)
-    (cond (eqb (a .cost) none)
+    cond (saysLeast a)
+    (leastLine (a .cost) (a .«open_count») (a .«step_count»))
+    (cond (saysNone a)
     (noneLine (a .«step_count»))
-    (leastLine (a .cost) (a .«open_count») (a .«step_count»)))
-    (refusedLine (a .number) (a .place))
+    (cond (saysWithin a)
+    (withinLine (a .gap) (a .cost) (a .«open_count») (a .«step_count»))
+    (refusedLine (a .number) (a .place))))

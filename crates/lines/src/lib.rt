@@ -7,10 +7,10 @@ ghost use Prim.Native.Nat.{_+_, _≤_};
 ghost use lib.ListN.{length, take};
 ghost use Rattle.io.specs.Counts.{Counts};
 ghost use Rattle.judgement.specs.Buffer.{over};
-ghost use Rattle.lines.specs.Lines.{decimalOf, leastLine, noneLine, refusedLine, lineOf};
+ghost use Rattle.lines.specs.Lines.{decimalOf, leastLine, noneLine, withinLine, refusedLine, lineOf};
 
 // A buffer of this many bytes holds every line.
-pub const LINE: usize = 96;
+pub const LINE: usize = 112;
 
 // Puts `word` after the first `at` bytes.
 fn put(out: &mut [u8], at: usize, word: &[u8])
@@ -58,6 +58,18 @@ fn none_line(steps: u32, out: &mut [u8; LINE]) -> usize
     a + 1
 }
 
+fn within_line(gap: u64, cost: u64, opens: u32, steps: u32, out: &mut [u8; LINE]) -> usize
+    ensures size { λ r. ⌜ r ≡ length (withinLine gap cost opens steps) ⌝ }
+    ensures bytes { λ _. ⌜ now (out .exit) ≡ over (withinLine gap cost opens steps) (now (out .entry)) ⌝ }
+{
+    let a = put_field(out, 0, b"within ", gap);
+    let b = put_field(out, a, b" cost ", cost);
+    let c = put_field(out, b, b" open ", opens as u64);
+    let d = put_field(out, c, b" steps ", steps as u64);
+    put(out, d, b"\n");
+    d + 1
+}
+
 fn refused_line(number: u32, place: u32, out: &mut [u8; LINE]) -> usize
     ensures size { λ r. ⌜ r ≡ length (refusedLine number place) ⌝ }
     ensures bytes { λ _. ⌜ now (out .exit) ≡ over (refusedLine number place) (now (out .entry)) ⌝ }
@@ -76,6 +88,9 @@ pub fn line(a: Answer, out: &mut [u8; LINE]) -> usize
 {
     if a.number != 0 {
         return refused_line(a.number, a.place, out);
+    }
+    if a.gap != 0 {
+        return within_line(a.gap, a.cost, a.open_count, a.step_count, out);
     }
     if a.cost == NONE {
         return none_line(a.step_count, out);

@@ -1,6 +1,6 @@
 -- `exports::put_answer` meets its contract.
 -- Assumes nothing.
-use Rattle.exports.proofs.Stores.{five}
+use Rattle.exports.proofs.Stores.{six}
 use borrow.Author.Needs.{needs}
 use Rattle.exports.proofs.put_answer.Statement.{statement}
 use Rattle.exports.proofs.put_answer.Tie as tie
@@ -32,11 +32,14 @@ cast-out-4 c = search needs
 slice-write-out-5 : tie.Need-slice-write-out-5
 slice-write-out-5 c = search needs depth 8
 
+slice-write-out-6 : tie.Need-slice-write-out-6
+slice-write-out-6 c = search needs depth 8
+
 same-length : tie.Need-same-length
 same-length c = search needs
 
 returns : tie.Need-returns
-returns c = five (c .before .before .before .before .args .out .now) (c .before .before .before .before .pre) _ _ _ _ _
+returns c = six (c .before .before .before .before .args .out .now) (c .before .before .before .before .pre) _ _ _ _ _ _
 
 pub put-answer-spec : {M : Type 1} → statement M
 put-answer-spec =
@@ -51,5 +54,6 @@ put-answer-spec =
     slice-write-out-4
     cast-out-4
     slice-write-out-5
+    slice-write-out-6
     same-length
     returns)

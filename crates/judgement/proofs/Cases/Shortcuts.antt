@@ -4,27 +4,29 @@
 -- Assumes nothing.
 use Prim.Native.Nat.{ℕ, zero, suc, _≤_}
 use mathlib.Core.Path.{_≡_, refl, sym, ap, _∙_}
-use mathlib.Core.Bool.{Bool, true, _&&_}
+use mathlib.Core.Bool.{Bool, true, false, _&&_}
 use mathlib.Core.List.{List, [], _∷_}
 use mathlib.Core.Logic.{_≢_}
 use native.Mathlib.Omega.{arith}
 use native.Mathlib.Nat.{le-refl}
-use lib.ListN.{length}
+use lib.ListN.{length, replicate}
 use lib.Dec.{ltb}
-use borrow.Author.Tests.{ltb-true, eqb-true}
+use borrow.Author.Tests.{ltb-true}
 use Rattle.judgement.specs.Meaning.{Assignment, cost, Model, Least, none}
 use Rattle.judgement.specs.Sheet.{variables, clauses, clause, problemOf}
-use Rattle.judgement.specs.Record.{claim, assigned, satisfied}
+use Rattle.judgement.specs.Record.{claim, assigned, assignmentSize, satisfied}
 use Rattle.judgement.specs.Writer.{bytesOf, numbersOf, pairsOf, joined, fileOf, sheetOf, stepOf, recordOf}
 use Rattle.judgement.specs.declared.Answer.{Answer}
-use Rattle.judgement.specs.Judgement.{accepts}
+use Rattle.judgement.specs.Judgement.{judgement, passes, saysLeast, saysWithin, accepts}
 use Rattle.judgement.specs.Computed.{right}
 use Rattle.judgement.specs.Facts.{ValidSheet}
-use Rattle.judgement.specs.Demands.{IsBytes, Accepted, Shape, ExactlyWhen, Checker, SoundFor, CompleteFor}
-use Rattle.judgement.proofs.Laws.Scan.{and-l, and-r, all-each}
+use Rattle.judgement.specs.Demands.{IsBytes, Shape, ExactlyWhen, Checker, Sound, CompleteFor}
+use Rattle.judgement.proofs.Laws.Scan.{clash, and-l, and-r, false-i, all-each}
+use Rattle.judgement.proofs.Laws.Answers.{accepts-passes, least-accepts, within-apart}
 use Rattle.judgement.proofs.Laws.Models.{satisfied-satisfies}
+use Rattle.judgement.proofs.Laws.Cost.{cost-below-none}
 use Rattle.judgement.proofs.Facts.Accepted.{exactly-when}
-use Rattle.judgement.proofs.Complete.Packed.{packed-bytes}
+use Rattle.judgement.proofs.Complete.Packed.{packed-bytes, clear-bytes}
 use Rattle.judgement.proofs.Complete.Written.{record-claim, written-bytes}
 use Rattle.judgement.proofs.Promised.{sound}
 use Rattle.judgement.proofs.Cases.Starred.{sheetA, recordA, sheetB1, recordB1, costStep}
@@ -33,7 +35,7 @@ use Rattle.judgement.proofs.Cases.Starred.{sheetA, recordA, sheetB1, re
 
 pub record Plan (s r : List ℕ) : Type 0 where
   pub bytes : IsBytes s
-  pub accepted : Accepted s r
+  pub accepted : accepts (judgement s r) ≡ true
   pub some : claim r ≢ none
   pub few : variables s ≤ 16
 
@@ -69,26 +71,33 @@ module _ (s r : List ℕ) (plan : Plan s r) where
   }
 
   valid : ValidSheet s
-  valid = exactly-when s r .0 (plan .accepted) .sheet
+  valid = exactly-when s r .accepted .0 (plan .accepted) .0 .stored .sheet
 
-  -- a complete checker accepts some record of the sheet
-  accepts-some : (A : Checker) → CompleteFor A s → (x : List ℕ) × A s x
-  accepts-some A complete =
+  -- a complete checker says least of some record of the sheet
+  says-least : (f : Checker) → CompleteFor f s → (x : List ℕ) × (saysLeast (f s x) ≡ true)
+  says-least f complete =
       let (bodies, are-bytes, ok) = complete .least valid (plan .few) (assigned r) model (claim r) least .1 claim-is in
       (recordOf (cost (problemOf s) (assigned r)) _ bodies, ok)
 
   -- an answer with demands 1 and 2 accepts, and its cost is the claim
   answers-claim : (a : Answer) → Shape s r a → ExactlyWhen s r a → (accepts a ≡ true) × (a .cost ≡ claim r)
   answers-claim a shaped exactly =
-      let ok = exactly .1 (exactly-when s r .0 (plan .accepted)) in
-      (ok, shaped .accepted (eqb-true (a .number) 0 ok) .1)
+      let ok = exactly .accepted .1 (exactly-when s r .accepted .0 (plan .accepted)) in
+      (ok, shaped .passed (accepts-passes a ok) .1)
 
 -- ---- the shortcuts
 
-pub refuses-all : (A : Checker) → ((s r : List ℕ) → A s r → ⊥) → ((s : List ℕ) → CompleteFor A s) → ⊥
-refuses-all A never complete =
-    let (x, ok) = accepts-some sheetA recordA planA A (complete sheetA) in
-    never sheetA x ok
+pub accepts-nothing : (f : Checker) → ((s r : List ℕ) → accepts (f s r) ≡ false) → ((s : List ℕ) → CompleteFor f s) → ⊥
+accepts-nothing f never complete =
+    let (x, ok) = says-least sheetA recordA planA f (complete sheetA) in
+    clash (least-accepts (f sheetA x) ok) (never sheetA x)
+
+pub refuses-all : (f : Checker) → ((s r : List ℕ) → passes (f s r) ≡ false) → ((s : List ℕ) → CompleteFor f s) → ⊥
+refuses-all f never = accepts-nothing f (λ s r. false-i _ (λ ok. clash (accepts-passes (f s r) ok) (never s r)))
+
+-- "within" is no acceptance
+pub within-all : (f : Checker) → ((s r : List ℕ) → saysWithin (f s r) ≡ true) → ((s : List ℕ) → CompleteFor f s) → ⊥
+within-all f always = accepts-nothing f (λ s r. within-apart (f s r) (always s r))
 
 -- both paddles open keep the rules of sheet A, at cost 8
 dearer : Assignment
@@ -103,37 +112,53 @@ dearer-costs : (cost (problemOf sheetA) dearer ≡ claim recordA) → ⊥
 unfolding right sheetA recordA dearer
 dearer-costs e = omega (arith, e)
 
-pub accepts-all : (A : Checker) → ((s r : List ℕ) → A s r) → ((s : List ℕ) → CompleteFor A s) → ⊥
-accepts-all A always complete =
+dearer-claim : (bits : List ℕ) → claim (recordOf (cost (problemOf sheetA) dearer) bits []) ≢ none
+dearer-claim bits e =
+    let below = cost-below-none sheetA (planA .bytes) (valid sheetA recordA planA .n .1) dearer in
+    omega (arith, e, below, record-claim (cost (problemOf sheetA) dearer) bits [] (omega (arith, below)))
+
+-- of two costs that differ
+pub least-all : (f : Checker) → ((s r : List ℕ) → claim r ≢ none → saysLeast (f s r) ≡ true) → ((s : List ℕ) → CompleteFor f s) → ⊥
+least-all f always complete =
     dearer-costs
     (complete sheetA .least (valid sheetA recordA planA) (planA .few) dearer dearer-model (claim recordA) (least sheetA recordA planA) .0
-    ([], written-bytes (cost (problemOf sheetA) dearer) _ [] (packed-bytes (variables sheetA) dearer), always sheetA _))
+    ([], written-bytes (cost (problemOf sheetA) dearer) _ [] (packed-bytes (variables sheetA) dearer), always sheetA _ (dearer-claim _)))
+
+-- whatever the acceptances are: sheet A has a model
+pub accepts-all : (f : Checker) → ((s r : List ℕ) → accepts (f s r) ≡ true) → ((s : List ℕ) → CompleteFor f s) → ⊥
+accepts-all f always complete =
+    let w = assignmentSize (variables sheetA) in
+    let bytes = written-bytes none (replicate w 0) [] (clear-bytes w) in
+    let breaks = complete sheetA .none-exists (valid sheetA recordA planA) (planA .few) .0 ([], bytes, always sheetA _) in
+    let (k, l, h, out) = breaks (assigned recordA) in
+    out (model sheetA recordA planA k l h)
 
 other-sheet : sheetA ≡ sheetB1 → ⊥
 unfolding sheetA bytesOf numbersOf pairsOf joined fileOf sheetOf sheetB1
 other-sheet e = let z : _≡_ {A = ℕ} 36 8 = ap length e in omega (arith, z)
 
-pub one-acceptance : (A : Checker) (s₀ r₀ : List ℕ) → ((s r : List ℕ) → A s r → (s ≡ s₀) × (r ≡ r₀)) → ((s : List ℕ) → CompleteFor A s) → ⊥
-one-acceptance A s₀ r₀ only complete =
-    let (x, ok) = accepts-some sheetA recordA planA A (complete sheetA) in
-    let (y, okay) = accepts-some sheetB1 recordB1 planB1 A (complete sheetB1) in
-    other-sheet (only sheetA x ok .0 ∙ sym (only sheetB1 y okay .0))
+pub one-acceptance : (f : Checker) (s₀ r₀ : List ℕ) → ((s r : List ℕ) → accepts (f s r) ≡ true → (s ≡ s₀) × (r ≡ r₀))
+    → ((s : List ℕ) → CompleteFor f s) → ⊥
+one-acceptance f s₀ r₀ only complete =
+    let (x, ok) = says-least sheetA recordA planA f (complete sheetA) in
+    let (y, okay) = says-least sheetB1 recordB1 planB1 f (complete sheetB1) in
+    other-sheet (only sheetA x (least-accepts (f sheetA x) ok) .0 ∙ sym (only sheetB1 y (least-accepts (f sheetB1 y) okay) .0))
 
 other-claim : claim recordA ≡ claim recordB1 → ⊥
 unfolding right sheetA recordA bytesOf numbersOf pairsOf joined fileOf stepOf recordOf costStep recordB1
 other-claim e = omega (arith, e)
 
 -- f answers, and each of its acceptances is a
-pub fixed-answer : (f : List ℕ → List ℕ → Answer) (a : Answer) → ((s r : List ℕ) → accepts (f s r) ≡ true → f s r ≡ a)
+pub fixed-answer : (f : Checker) (a : Answer) → ((s r : List ℕ) → accepts (f s r) ≡ true → f s r ≡ a)
     → ((s r : List ℕ) → Shape s r (f s r)) → ((s r : List ℕ) → ExactlyWhen s r (f s r)) → ⊥
 fixed-answer f a fixed shaped exactly =
     let (ok, is) = answers-claim sheetA recordA planA (f sheetA recordA) (shaped sheetA recordA) (exactly sheetA recordA) in
     let (okay, other) = answers-claim sheetB1 recordB1 planB1 (f sheetB1 recordB1) (shaped sheetB1 recordB1) (exactly sheetB1 recordB1) in
     other-claim (sym is ∙ ap (λ x. x .cost) (fixed sheetA recordA ok ∙ sym (fixed sheetB1 recordB1 okay)) ∙ other)
 
-pub none-unread : (A : Checker) → ((s r : List ℕ) → claim r ≡ none → A s r) → ((s r : List ℕ) → SoundFor A s r) → ⊥
-none-unread A unread sound-A =
+pub none-unread : (f : Checker) → ((s r : List ℕ) → claim r ≡ none → accepts (f s r) ≡ true) → ((s r : List ℕ) → Sound s r (f s r)) → ⊥
+none-unread f unread sound-f =
     let r : List ℕ = recordOf none [] [] in
     let e : claim r ≡ none = record-claim none [] [] (le-refl none) in
-    let (k, l, h, out) = sound-A sheetA r .none-exists (unread sheetA r e) e (assigned recordA) in
+    let (k, l, h, out) = sound-f sheetA r .none-exists (unread sheetA r e) e (assigned recordA) in
     out (model sheetA recordA planA k l h)

@@ -273,20 +273,23 @@ pub written-acceptable : (s : List ℕ) → ValidSheet s → variables s ≤ 16 
     → (c ≢ none → cost (problemOf s) (assigned (recordOf c bits (bodiesOf ts))) ≡ c)
     → c ≤ boundOf (nth ts (length ts)) → Acceptable s (recordOf c bits (bodiesOf ts))
 written-acceptable s valid _ ts d c small bits whole spare clear model cost-is reaches =
-    let e = written-claim s valid ts d c small bits whole in
-    record {
-      sheet = valid;
-      layout = record {
-        size = written-size s valid ts d c small bits whole;
-        t = rw (written-steps s valid ts d c small bits whole) (d .some);
-        room = written-room s valid ts d c small bits whole;
-        spare = spare;
-        clear = rw e clear;
-        pairs = written-pairs s valid ts d c small bits whole;
-      };
-      model = rw e model;
-      cost-is = rw e cost-is;
-      forms = written-forms s valid ts d c small bits whole;
-      inferences = written-inferences s valid ts d c small bits whole;
-      closes = written-closes s valid ts d c small bits whole reaches;
-    }
+    let e = written-claim s valid ts d c small bits whole in (
+      record {
+        stored = record {
+          sheet = valid;
+          layout = record {
+            size = written-size s valid ts d c small bits whole;
+            t = rw (written-steps s valid ts d c small bits whole) (d .some);
+            room = written-room s valid ts d c small bits whole;
+            spare = spare;
+            clear = rw e clear;
+            pairs = written-pairs s valid ts d c small bits whole;
+          };
+          model = rw e model;
+          cost-is = rw e cost-is;
+        };
+        forms = written-forms s valid ts d c small bits whole;
+        inferences = written-inferences s valid ts d c small bits whole;
+      },
+      written-closes s valid ts d c small bits whole reaches,
+    )

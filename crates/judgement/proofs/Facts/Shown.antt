@@ -14,12 +14,12 @@ use Rattle.judgement.specs.Pairs.{pairOffset, pairLength, body}
 use Rattle.judgement.specs.Sheet.{clauses, clausePairsAt}
 use Rattle.judgement.specs.Record.{steps, stepPairsAt, step}
 use Rattle.judgement.specs.Step.{kindOf, cited}
-use Rattle.judgement.specs.Judgement.{judgement, accepts, clausePart, literalsPart, stepPart, shownPart}
+use Rattle.judgement.specs.Judgement.{judgement, passes, clausePart, literalsPart, stepPart, shownPart}
 use Rattle.judgement.specs.Place.{Inside}
-use Rattle.judgement.specs.Facts.{Among, PairRule, ValidSheet, RecordLayout, StepLayout, Inference, copies, costs, independent, resolution, linear, Acceptable}
+use Rattle.judgement.specs.Facts.{Among, PairRule, ValidSheet, RecordLayout, StepLayout, Inference, copies, costs, independent, resolution, linear, BeforeClose}
 use Rattle.judgement.proofs.Laws.Scan.{which, and-l, and-r}
 use Rattle.judgement.proofs.Facts.FirstByte.{begins-kind}
-use Rattle.judgement.proofs.Facts.Accepted.{exactly-when}
+use Rattle.judgement.proofs.Facts.Accepted.{passes-before}
 
 -- where the pairs keep their rule, every body ends in the file; `left` bodies come after it
 ends-before : (f : List ℕ) (at count : ℕ) → PairRule f at count → (left k : ℕ) → 1 ≤ k → k + left ≡ count
@@ -48,15 +48,15 @@ literals-inside s r k laid w form =
     let size = length-take (pairLength r (stepPairsAt s) k) (drop (pairOffset r (stepPairsAt s) k) r) in
     omega (arith, ends, size, form .room)
 
-step-inside : (s r : List ℕ) (k : ℕ) → Acceptable s r → Among (steps r) k → Inside s r (stepPart (kindOf (step s r k)) s r k)
+step-inside : (s r : List ℕ) (k : ℕ) → BeforeClose s r → Among (steps r) k → Inside s r (stepPart (kindOf (step s r k)) s r k)
 unfolding stepPart
 step-inside s r k ok w = go (ok .inferences k w)
   where
     own : Inside s r (literalsPart s r k)
-    own = literals-inside s r k (ok .layout) w (ok .forms k w)
+    own = literals-inside s r k (ok .stored .layout) w (ok .forms k w)
 
     go : Inference s r k → Inside s r (stepPart (kindOf (step s r k)) s r k)
-    go (copies i) = rw (begins-kind Copy (step s r k) (omega arith) (i .kind)) (clause-inside s r (cited (step s r k) 1) (ok .sheet) (i .cites))
+    go (copies i) = rw (begins-kind Copy (step s r k) (omega arith) (i .kind)) (clause-inside s r (cited (step s r k) 1) (ok .stored .sheet) (i .cites))
     go (costs i) = rw (begins-kind Cost (step s r k) (omega arith) (i .kind)) own
     go (independent i) = rw (begins-kind IndependentSet (step s r k) (omega arith) (i .citing .kind)) own
     go (resolution i) = rw (begins-kind Resolvent (step s r k) (omega arith) (i .kind)) own
@@ -64,14 +64,14 @@ step-inside s r k ok w = go (ok .inferences k w)
 
 pub shown-inside : (s r : List ℕ) (k : ℕ) → Inside s r (shownPart s r k)
 unfolding shownPart
-shown-inside s r k = go (which (accepts (judgement s r) && leb 1 k && leb k (steps r)))
+shown-inside s r k = go (which (passes (judgement s r) && leb 1 k && leb k (steps r)))
   where
-    there : (accepts (judgement s r) && leb 1 k && leb k (steps r) ≡ true) → Inside s r (stepPart (kindOf (step s r k)) s r k)
+    there : (passes (judgement s r) && leb 1 k && leb k (steps r) ≡ true) → Inside s r (stepPart (kindOf (step s r k)) s r k)
     there e =
-        step-inside s r k (exactly-when s r .0 (search (e, and-l, and-r) depth 12))
+        step-inside s r k (passes-before s r (search (e, and-l, and-r) depth 12))
         (leb-true 1 k (search (e, and-l, and-r) depth 12), leb-true k (steps r) (search (e, and-r)))
 
-    go : (accepts (judgement s r) && leb 1 k && leb k (steps r) ≡ true) ⊎ (accepts (judgement s r) && leb 1 k && leb k (steps r) ≡ false)
+    go : (passes (judgement s r) && leb 1 k && leb k (steps r) ≡ true) ⊎ (passes (judgement s r) && leb 1 k && leb k (steps r) ≡ false)
         → Inside s r (shownPart s r k)
     go (inl e) = rw e (there e)
     go (inr e) = rw e (omega arith)

@@ -12,9 +12,8 @@ use lib.Dec.{eqb, leb}
 use Rattle.judgement.specs.declared.Finding.{Finding}
 use Rattle.judgement.specs.declared.Finding.the-variants.{Fault}
 use Rattle.judgement.specs.Finding.{_then_}
-use Rattle.judgement.specs.Pairs.{pairFinding, pairsFinding}
-use Rattle.judgement.specs.Sheet.{sheetHead, sheetPairs, clauseForm, sheetFinding}
-use Rattle.judgement.specs.Record.{steps, step, recordHead, strayBit, recordPairs, recordFinding, brokenClause, claimedCost}
+use Rattle.judgement.specs.Sheet.{sheetFinding}
+use Rattle.judgement.specs.Record.{steps, step, recordFinding}
 use Rattle.judgement.specs.declared.Kind.{Kind}
 use Rattle.judgement.specs.declared.Kind.the-variants.{Copy, Cost, IndependentSet, Resolvent, WeightedSet, Unknown}
 use Rattle.judgement.specs.Step.{kindOf, stepForm, citation}
@@ -26,8 +25,9 @@ use Rattle.judgement.specs.Facts.{Among, StepLayout}
 use Rattle.judgement.specs.Refusals.{Reached}
 use Rattle.judgement.proofs.Laws.Scan.{clash}
 use Rattle.judgement.proofs.Laws.Findings.{IsFine, fine-is, over-found, found-over, then-found}
-use Rattle.judgement.proofs.Laws.Findings.{Faults, fine-faults, need-faults, then-faults, over-faults, cond-faults, fault-has}
-use Rattle.judgement.proofs.Facts.Layouts.{oversize-facts, facts-oversize, sheet-valid, valid-sheet, record-layout, layout-record, assignment-model, model-assignment}
+use Rattle.judgement.proofs.Laws.Findings.{Faults, faults-map, fine-faults, need-faults, then-faults, over-faults, fault-has}
+use Rattle.judgement.proofs.Order.Early.{Early, oversize-early, sheet-early, record-early, assignment-early, form-early, citation-early}
+use Rattle.judgement.proofs.Facts.Layouts.{stored-by, stored-fine}
 use Rattle.judgement.proofs.Facts.Inferences.{step-layout, step-facts, facts-step}
 
 -- the number is one that a step's kind tells
@@ -46,32 +46,11 @@ pub record KindFound (s r : List ℕ) (k N : ℕ) : Type 0 where
 abbrev Plain : Finding → Type 0
 Plain f = Faults (λ N P. isOfKind N ≡ false) f
 
+early-plain : (f : Finding) → Early f → Plain f
+early-plain f = faults-map (λ N P. leb N 11 ≡ true) (λ N P. isOfKind N ≡ false) (λ N P e. rw e) f
+
 module _ (s r : List ℕ) where
-  ruleset plain = (then-faults, over-faults, need-faults, cond-faults, fine-faults)
-
-  oversize-plain : Plain (oversize s r)
-  unfolding oversize
-  oversize-plain = search plain
-
-  sheet-plain : Plain (sheetFinding s)
-  unfolding sheetFinding sheetHead sheetPairs pairsFinding pairFinding clauseForm
-  sheet-plain = search plain depth 12
-
-  record-plain : Plain (recordFinding s r)
-  unfolding recordFinding recordHead strayBit recordPairs pairsFinding pairFinding
-  record-plain = search plain depth 12
-
-  assignment-plain : Plain (assignmentFinding s r)
-  unfolding assignmentFinding brokenClause claimedCost
-  assignment-plain = search plain depth 12
-
-  form-plain : (b : List ℕ) (k : ℕ) → Plain (stepForm s b k)
-  unfolding stepForm
-  form-plain b k = search plain
-
-  citation-plain : (b : List ℕ) (k : ℕ) → Plain (citation s b k)
-  unfolding citation
-  citation-plain b k = search plain
+  ruleset plain = (then-faults, over-faults, need-faults, fine-faults)
 
   close-plain : Plain (close s r)
   unfolding close
@@ -94,13 +73,8 @@ module _ (s r : List ℕ) where
       → (k : ℕ) → Among (steps r) k → ((h : ℕ) → 1 ≤ h → h < k → IsFine (stepFinding s r h)) → IsFine (stepForm s (step s r k) k)
       → Reached s r k
   reached-by sizes sheet layout plan k w before form =
-      let (sheet-size, record-size) = oversize-facts s r sizes in
-      let model = assignment-model s r plan in
       record {
-        sheet = sheet-valid s sheet-size sheet;
-        layout = record-layout s r record-size layout;
-        model = λ h. model h .0;
-        cost-is = λ h. model h .1;
+        stored = stored-by s r sizes sheet layout plan;
         among = w;
         forms = λ h l m. form-at h l m (decLt h k);
         inferences = λ h l m. step-facts s r h (before h l m) .1;
@@ -117,8 +91,8 @@ module _ (s r : List ℕ) where
     not-plain : (f : Finding) → Plain f → f ≡ Fault N P → ⊥
     not-plain f plain e = clash mine (fault-has (λ N P. isOfKind N ≡ false) f plain e)
 
-    skip : (f g : Finding) → Plain f → f then g ≡ Fault N P → IsFine f × (g ≡ Fault N P)
-    skip f g plain e = elim (then-found f g N P e) [ inl q ↦ absurd (not-plain f plain q) | inr q ↦ q ]
+    skip : (f g : Finding) → Early f → f then g ≡ Fault N P → IsFine f × (g ≡ Fault N P)
+    skip f g early e = elim (then-found f g N P e) [ inl q ↦ absurd (not-plain f (early-plain f early) q) | inr q ↦ q ]
 
     stay : (f g : Finding) → Plain g → f then g ≡ Fault N P → f ≡ Fault N P
     stay f g plain e = elim (then-found f g N P e) [ inl q ↦ q | inr q ↦ absurd (not-plain g plain (q .1)) ]
@@ -130,8 +104,8 @@ module _ (s r : List ℕ) where
     unfolding stepFinding
     step-found k e =
         let b = step s r k in
-        let (form, after-form) = skip (stepForm s b k) _ (form-plain b k) e in
-        let (cites, after-cites) = skip (citation s b k) _ (citation-plain b k) after-form in
+        let (form, after-form) = skip (stepForm s b k) _ (form-early s r b k) e in
+        let (cites, after-cites) = skip (citation s b k) _ (citation-early s r b k) after-form in
         (form, cites, fault-has (λ N P. P ≡ k) (kindFinding (kindOf b) s r k) (kind-here k (kindOf b)) after-cites, after-cites)
 
     found-there : (k : ℕ) → P ≡ k → {f : Finding} → f ≡ Fault N P → f ≡ Fault N k
@@ -143,10 +117,10 @@ module _ (s r : List ℕ) where
     pub finding-kind : finding s r ≡ Fault N P → KindFound s r P N
     unfolding finding
     finding-kind e =
-        let (size, after-size) = skip (oversize s r) _ oversize-plain e in
-        let (sheet, after-sheet) = skip (sheetFinding s) _ sheet-plain after-size in
-        let (layout, after-layout) = skip (recordFinding s r) _ record-plain after-sheet in
-        let (plan, after-plan) = skip (assignmentFinding s r) _ assignment-plain after-layout in
+        let (size, after-size) = skip (oversize s r) _ (oversize-early s r) e in
+        let (sheet, after-sheet) = skip (sheetFinding s) _ (sheet-early s r) after-size in
+        let (layout, after-layout) = skip (recordFinding s r) _ (record-early s r) after-sheet in
+        let (plan, after-plan) = skip (assignmentFinding s r) _ (assignment-early s r) after-layout in
         let (k, w, before, here) = over-found (stepFinding s r) (steps r) N P (stay _ (close s r) close-plain after-plan) in
         let (form, cites, place, found) = step-found k here in
         told-there k place record {
@@ -160,16 +134,17 @@ module _ (s r : List ℕ) where
   unfolding finding stepFinding
   kind-finding N k f =
       let h = f .reached in
+      let (size, sheet, layout, plan) = stored-fine s r (h .stored) in
       rw (
-        fine-is (oversize s r) (facts-oversize s r (h .sheet .size, h .layout .size)),
-        fine-is (sheetFinding s) (valid-sheet s (h .sheet)),
-        fine-is (recordFinding s r) (layout-record s r (h .layout)),
-        fine-is (assignmentFinding s r) (model-assignment s r (h .model) (h .cost-is)),
+        fine-is (oversize s r) size,
+        fine-is (sheetFinding s) sheet,
+        fine-is (recordFinding s r) layout,
+        fine-is (assignmentFinding s r) plan,
         found-over (stepFinding s r) (steps r) (Fault N k) refl (k, h .among, earlier h, here),
       )
     where
       earlier : Reached s r k → (g : ℕ) → 1 ≤ g → g < k → IsFine (stepFinding s r g)
-      earlier h g l m = facts-step s r g (h .sheet .lists) (h .forms g l (omega arith)) (h .inferences g l m)
+      earlier h g l m = facts-step s r g (h .stored .sheet .lists) (h .forms g l (omega arith)) (h .inferences g l m)
 
       here : stepFinding s r k ≡ Fault N k
       here =

@@ -1,4 +1,5 @@
--- What the facts of acceptance mean: every step is entailed, so the claim is true.
+-- What the facts of acceptance mean, and those of "within": every step is entailed, so the claim is true, or no further off than the
+-- last bound.
 -- Assumes nothing.
 use Prim.Native.Nat.{ℕ, zero, suc, _*_, _≤_, _<_}
 use mathlib.Core.Path.{_≡_}
@@ -9,9 +10,9 @@ use lib.ListN.{drop, length-take}
 use Rattle.judgement.specs.Meaning.{Assignment, cost, Model, Falsifies, Entailed, Unsatisfiable, none}
 use Rattle.judgement.specs.Literals.{holds}
 use Rattle.judgement.specs.Sheet.{problemOf}
-use Rattle.judgement.specs.Record.{claim, steps, assigned, step}
+use Rattle.judgement.specs.Record.{claim, steps, assigned, step, lastStep}
 use Rattle.judgement.specs.Step.{literalCount, bound, literals, cited}
-use Rattle.judgement.specs.Facts.{Among, Inference, copies, costs, independent, resolution, linear, Acceptable}
+use Rattle.judgement.specs.Facts.{Among, Inference, copies, costs, independent, resolution, linear, BeforeClose, Acceptable, WithinTolerance}
 use Rattle.judgement.specs.Demands.{IsBytes}
 use Rattle.judgement.proofs.Laws.Membership.{holds-in}
 use Rattle.judgement.proofs.Laws.Truth.{model-or-breaks}
@@ -25,26 +26,26 @@ abbrev StepEntailed : List ℕ → List ℕ → ℕ → Type 0
 StepEntailed s r k = Entailed (problemOf s) (stated (step s r k))
 
 -- an inference from entailed steps is entailed
-inferred : (s r : List ℕ) → Acceptable s r → (k : ℕ) → Among (steps r) k → Inference s r k
+inferred : (s r : List ℕ) → BeforeClose s r → (k : ℕ) → Among (steps r) k → Inference s r k
     → ((j : ℕ) → 1 ≤ j → j < k → StepEntailed s r j) → StepEntailed s r k
 inferred s r facts k w (copies f) earlier = copy-entailed s (step s r k) f
 inferred s r facts k w (costs f) earlier = cost-entailed s (step s r k) (facts .forms k w .list) f
-inferred s r facts k w (independent f) earlier = independent-entailed s (step s r k) (facts .sheet) (facts .forms k w .list) f
+inferred s r facts k w (independent f) earlier = independent-entailed s (step s r k) (facts .stored .sheet) (facts .forms k w .list) f
 inferred s r facts k w (resolution f) earlier =
     let x = cited (step s r k) 1 in
     let y = cited (step s r k) 2 in
     let from-x = earlier x (f .some-x) (f .earlier-x) in
     let from-y = earlier y (f .some-y) (f .earlier-y) in
     resolution-entailed (problemOf s) (step s r x) (step s r y) (step s r k) (f .resolves) from-x from-y
-inferred s r facts k w (linear f) earlier = linear-entailed s (step s r k) (facts .sheet) f
+inferred s r facts k w (linear f) earlier = linear-entailed s (step s r k) (facts .stored .sheet) f
 
 -- the steps below `top`, each from earlier ones
-entailed-below : (s r : List ℕ) → Acceptable s r → (top k : ℕ) → k < top → Among (steps r) k → StepEntailed s r k
+entailed-below : (s r : List ℕ) → BeforeClose s r → (top k : ℕ) → k < top → Among (steps r) k → StepEntailed s r k
 entailed-below s r facts zero k h w = absurd (omega arith)
 entailed-below s r facts (suc top) k h w =
     inferred s r facts k w (facts .inferences k w) λ j l m. entailed-below s r facts top j (omega arith) (l, omega (arith, w .1))
 
-pub entailed : (s r : List ℕ) → Acceptable s r → (k : ℕ) → Among (steps r) k
+pub entailed : (s r : List ℕ) → BeforeClose s r → (k : ℕ) → Among (steps r) k
     → Entailed (problemOf s) (record { literals = holds (literals (step s r k)); bound = bound (step s r k) })
 entailed s r facts k w = entailed-below s r facts (suc k) k (omega arith) w
 
@@ -57,12 +58,17 @@ empty-false b α e c held =
     let h = length-take (2 * literalCount b) (drop 12 b) in
     absurd (omega (arith, w .0, w .1))
 
--- the last step has no literals, so its bound is one on every model
+-- where step t has no literals, its bound is one on every model
+lower-bound : (s r : List ℕ) → BeforeClose s r → literalCount (lastStep s r) ≡ 0 → (β : Assignment) → Model (problemOf s) β
+    → bound (lastStep s r) ≤ cost (problemOf s) β
+lower-bound s r facts empty β model =
+    let last : Among (steps r) (steps r) = (facts .stored .layout .t, omega arith) in
+    entailed s r facts (steps r) last β model (empty-false (lastStep s r) β empty)
+
 pub bound-holds : (s r : List ℕ) → Acceptable s r → (β : Assignment) → Model (problemOf s) β → claim r ≤ cost (problemOf s) β
-bound-holds s r facts β model =
-    let last : Among (steps r) (steps r) = (facts .layout .t, omega arith) in
-    let h = entailed s r facts (steps r) last β model (empty-false (step s r (steps r)) β (facts .closes .empty)) in
-    let e = facts .closes .reaches in
+bound-holds s r (facts, closes) β model =
+    let h = lower-bound s r facts (closes .empty) β model in
+    let e = closes .reaches in
     omega arith
 
 -- a cost is the least of any model, and "none" is true
@@ -71,13 +77,19 @@ pub sound-facts : (s r : List ℕ) → IsBytes s → Acceptable s r
     → Model (problemOf s) (assigned r) × (cost (problemOf s) (assigned r) ≡ claim r)
     × ((β : Assignment) → Model (problemOf s) β → claim r ≤ cost (problemOf s) β))
     × (claim r ≡ none → Unsatisfiable (problemOf s))
-sound-facts s r bytes facts = (λ some. (facts .model some, facts .cost-is some, bound-holds s r facts), unsatisfiable)
+sound-facts s r bytes (facts, closes) = (λ some. (facts .stored .model some, facts .stored .cost-is some, bound-holds s r (facts, closes)), unsatisfiable)
   where
     unsatisfiable : claim r ≡ none → Unsatisfiable (problemOf s)
     unsatisfiable e α = elim (model-or-breaks s α) [
       | inl model ↦
-          let low = bound-holds s r facts α model in
-          let high = cost-below-none s bytes (facts .sheet .n .1) α in
+          let low = bound-holds s r (facts, closes) α model in
+          let high = cost-below-none s bytes (facts .stored .sheet .n .1) α in
           absurd (omega arith)
       | inr breaks ↦ breaks
     ]
+
+-- a cost that the last bound falls short of is that of a model, and every model costs the bound at least
+pub within-facts : (s r : List ℕ) → WithinTolerance s r
+    → Model (problemOf s) (assigned r) × (cost (problemOf s) (assigned r) ≡ claim r)
+    × ((β : Assignment) → Model (problemOf s) β → bound (lastStep s r) ≤ cost (problemOf s) β)
+within-facts s r (facts, short) = (facts .stored .model (short .some), facts .stored .cost-is (short .some), lower-bound s r facts (short .empty))

@@ -1,0 +1,57 @@
+-- Laws of the names of answers: what each says of the number and the gap.
+-- Assumes nothing.
+use Prim.Native.Nat.{_<_}
+use mathlib.Core.Path.{_≡_, refl}
+use mathlib.Core.Bool.{Bool, true, false, not, _||_}
+use mathlib.Core.Logic.{_≢_, inl, inr}
+use native.Mathlib.Omega.{arith}
+use lib.Dec.{eqb}
+use borrow.Author.Tests.{eq-eqb, eqb-true, ne-eqb}
+use Rattle.judgement.specs.declared.Answer.{Answer}
+use Rattle.judgement.specs.Meaning.{none}
+use Rattle.judgement.specs.Judgement.{passes, saysLeast, saysNone, saysWithin, accepts}
+use Rattle.judgement.proofs.Laws.Scan.{and-l, and-r, or-l, or-e, not-e, false-i}
+
+module _ (a : Answer) where
+  -- ---- acceptance
+
+  pub accepts-passes : accepts a ≡ true → passes a ≡ true
+  accepts-passes e = elim (or-e (saysLeast a) (saysNone a) e) [ inl p ↦ search (p, and-l) | inr p ↦ search (p, and-l) ]
+
+  pub accepts-gap : accepts a ≡ true → a .gap ≡ 0
+  accepts-gap e = elim (or-e (saysLeast a) (saysNone a) e) [
+    | inl p ↦ eqb-true (a .gap) 0 (search (p, and-l, and-r) depth 12)
+    | inr p ↦ eqb-true (a .gap) 0 (search (p, and-l, and-r) depth 12)
+  ]
+
+  pub passes-accepts : passes a ≡ true → a .gap ≡ 0 → accepts a ≡ true
+  passes-accepts p e = rw (p, eq-eqb (a .gap) 0 e) (go (eqb (a .cost) none))
+    where
+      go : (b : Bool) → not b || b ≡ true
+      go true = refl
+      go false = refl
+
+  -- ---- least
+
+  pub least-accepts : saysLeast a ≡ true → accepts a ≡ true
+  least-accepts e = or-l (saysLeast a) (saysNone a) e
+
+  pub accepts-least : accepts a ≡ true → a .cost ≢ none → saysLeast a ≡ true
+  accepts-least e h = rw (accepts-passes e, eq-eqb (a .gap) 0 (accepts-gap e), ne-eqb (a .cost) none h)
+
+  -- ---- within
+
+  pub within-passes : saysWithin a ≡ true → passes a ≡ true
+  within-passes e = and-l (passes a) (not (eqb (a .gap) 0)) e
+
+  pub within-gap : saysWithin a ≡ true → 0 < a .gap
+  within-gap e =
+      let some : a .gap ≢ 0 = λ z. not-e (eqb (a .gap) 0) (and-r (passes a) (not (eqb (a .gap) 0)) e) (eq-eqb (a .gap) 0 z) in
+      omega (arith, some)
+
+  pub gap-within : passes a ≡ true → 0 < a .gap → saysWithin a ≡ true
+  gap-within p h = rw (p, ne-eqb (a .gap) 0 (λ z. omega (arith, z, h)))
+
+  -- it is no acceptance
+  pub within-apart : saysWithin a ≡ true → accepts a ≡ false
+  within-apart w = false-i (accepts a) (λ e. omega (arith, within-gap w, accepts-gap e))
