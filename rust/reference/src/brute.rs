@@ -28,36 +28,83 @@ pub fn least_cost(sheet: &[u8]) -> Option<u64> {
 
 /// The answer is an acceptance of this record, and what it says is true: the record's assignment satisfies every
 /// clause at that cost and nothing is cheaper; or, for "none", no assignment satisfies every clause. The counts
-/// are the record's. False for a refusal and for a sheet that is not [`within_reach`].
+/// are the record's. False for a refusal, for an answer with a gap (see [`confirms_within`]) and for a sheet that is
+/// not [`within_reach`].
 pub fn confirms(sheet: &[u8], record: &[u8], answer: &Answer) -> bool {
-    let Some(problem) = read(sheet).map(|sheet| Problem::of(&sheet)) else {
+    let Some(said) = Said::by(sheet, record) else {
         return false;
     };
-    let byte_count = problem.costs.len().div_ceil(8);
-    let Some(stored) = record.get(ASSIGNMENT_START..ASSIGNMENT_START + byte_count) else {
-        return false;
-    };
-    let assignment = number(stored) as u32;
-    if assignment >> problem.costs.len() != 0 {
+    if *answer != said.answer(0) {
         return false;
     }
-    let claim = number(&record[0..8]);
-    let acceptance = Answer {
-        number: 0,
-        place: 0,
-        cost: claim,
-        open_count: u64::from(assignment.count_ones()),
-        step_count: number(&record[8..12]),
-    };
-    if *answer != acceptance {
-        return false;
-    }
-    if claim == NONE {
-        assignment == 0 && least_cost(sheet).is_none()
+    if said.claim == NONE {
+        said.assignment == 0 && least_cost(sheet).is_none()
     } else {
-        problem.satisfied_by(assignment)
-            && problem.cost(assignment) == claim
-            && least_cost(sheet) == Some(claim)
+        said.is_model_at_claim() && least_cost(sheet) == Some(said.claim)
+    }
+}
+
+/// The answer leaves a gap, and what it says is true: the record's assignment satisfies every clause at that cost, and
+/// no assignment that does costs less than the cost minus the gap. The counts are the record's. Whether its steps
+/// bear out just this gap is not looked at.
+///
+/// False for an acceptance, for a refusal and for a sheet that is not [`within_reach`].
+pub fn confirms_within(sheet: &[u8], record: &[u8], answer: &Answer) -> bool {
+    let Some(said) = Said::by(sheet, record) else {
+        return false;
+    };
+    if answer.gap == 0 || *answer != said.answer(answer.gap) {
+        return false;
+    }
+    // No bound is below 0, so no record leaves a gap greater than its claim.
+    let Some(floor) = said.claim.checked_sub(answer.gap) else {
+        return false;
+    };
+    said.is_model_at_claim() && least_cost(sheet).is_some_and(|least| least >= floor)
+}
+
+/// What a record on a sheet within reach says, its steps apart.
+struct Said {
+    problem: Problem,
+    claim: u64,
+    assignment: u32,
+    step_count: u64,
+}
+
+impl Said {
+    /// `None` for a sheet that is not within reach, and where the assignment is cut short or has a spare bit set.
+    fn by(sheet: &[u8], record: &[u8]) -> Option<Said> {
+        let problem = Problem::of(&read(sheet)?);
+        let byte_count = problem.costs.len().div_ceil(8);
+        let stored = record.get(ASSIGNMENT_START..ASSIGNMENT_START + byte_count)?;
+        let assignment = number(stored) as u32;
+        if assignment >> problem.costs.len() != 0 {
+            return None;
+        }
+        Some(Said {
+            problem,
+            claim: number(&record[0..8]),
+            assignment,
+            step_count: number(&record[8..12]),
+        })
+    }
+
+    /// The answer to such a record if nothing is refused and the steps leave this gap.
+    fn answer(&self, gap: u64) -> Answer {
+        Answer {
+            number: 0,
+            place: 0,
+            cost: self.claim,
+            open_count: u64::from(self.assignment.count_ones()),
+            step_count: self.step_count,
+            gap,
+        }
+    }
+
+    /// The assignment satisfies every clause, and costs what is claimed. No cost is "none".
+    fn is_model_at_claim(&self) -> bool {
+        self.problem.satisfied_by(self.assignment)
+            && self.problem.cost(self.assignment) == self.claim
     }
 }
 

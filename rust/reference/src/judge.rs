@@ -1,4 +1,5 @@
-//! The judgement: the refusals in their order, which is not that of their numbers, and the acceptance.
+//! The judgement: the refusals in their order, which is not that of their numbers, and what is answered where none of
+//! them applies.
 
 use crate::cost_clause::CostClause;
 use crate::record::{self, Record};
@@ -22,7 +23,7 @@ pub fn sheet_is_valid(sheet: &[u8]) -> bool {
 
 /// The answer to a sheet and a record of any bytes.
 pub fn judge(sheet: &[u8], record: &[u8]) -> Answer {
-    match accept(sheet, record) {
+    match unrefused(sheet, record) {
         Ok(answer) => answer,
         Err(refusal) => Answer {
             number: refusal.number,
@@ -30,12 +31,14 @@ pub fn judge(sheet: &[u8], record: &[u8]) -> Answer {
             cost: 0,
             open_count: 0,
             step_count: 0,
+            gap: 0,
         },
     }
 }
 
-/// The acceptance, or the first refusal. The order of the lines is the order of the refusals.
-fn accept(sheet: &[u8], record: &[u8]) -> Result<Answer, Refusal> {
+/// The answer that is no refusal, an acceptance only if its gap is 0; or the first refusal. The order of the lines is
+/// the order of the refusals.
+fn unrefused(sheet: &[u8], record: &[u8]) -> Result<Answer, Refusal> {
     check_size(sheet, record)?;
     let sheet = sheet::read(sheet)?;
     let record = record::read(record, sheet.variable_count())?;
@@ -44,13 +47,14 @@ fn accept(sheet: &[u8], record: &[u8]) -> Result<Answer, Refusal> {
         check_claimed_cost(&sheet, &record)?;
     }
     let derived = check_steps(&sheet, &record)?;
-    check_close(&record, &derived)?;
+    let gap = check_close(&record, &derived)?;
     Ok(Answer {
         number: 0,
         place: 0,
         cost: record.claim,
         open_count: record.assignment.true_variables.len() as u64,
         step_count: record.steps.count(),
+        gap,
     })
 }
 
@@ -92,11 +96,20 @@ fn check_steps(sheet: &Sheet, record: &Record) -> Result<Vec<CostClause>, Refusa
     Ok(derived)
 }
 
-/// Refusal 19. "None" is the greatest number, so plain comparison covers a bound or a claim of "none" too.
-fn check_close(record: &Record, derived: &[CostClause]) -> Result<(), Refusal> {
-    let closes = |last: &CostClause| last.literals.is_empty() && last.bound >= record.claim;
-    if !derived.last().is_some_and(closes) {
+/// Refusal 19, or how far the last bound stays below the claim: 0 if it does not.
+///
+/// "None" is the greatest number, so plain comparison covers a bound of "none" too. Under the claim "none" there is no
+/// cost from which a lesser bound could be taken.
+fn check_close(record: &Record, derived: &[CostClause]) -> Result<u64, Refusal> {
+    let without_literals = |last: &&CostClause| last.literals.is_empty();
+    let Some(last) = derived.last().filter(without_literals) else {
         return refuse(CLOSE, record.steps.count());
+    };
+    if last.bound >= record.claim {
+        Ok(0)
+    } else if record.claims_none() {
+        refuse(CLOSE, record.steps.count())
+    } else {
+        Ok(record.claim - last.bound)
     }
-    Ok(())
 }

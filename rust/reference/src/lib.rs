@@ -1,4 +1,4 @@
-//! The reference checker: document 01, with changes 1 and 2 of document 02, in the plainest Rust there is.
+//! The reference checker: document 01, with changes 1 to 3 of document 02, in the plainest Rust there is.
 //!
 //! It exists to be compared with the proved checker, so it shares nothing with it and prefers sets, copies and
 //! wide numbers to speed. Each function is meant to be held beside one row of document 01's refusal table,
@@ -16,10 +16,13 @@
 //! | independent set (001, 5.1.1) | kind 3 |
 //! | cost resolution (001, definition 8) | kind 4 |
 //! | weighted clauses (001, 5.1.2) | kind 5 |
+//!
+//! There are four kinds of answer, and a [`Verdict`] names them: two acceptances, "within", and the refusals.
 
 #![forbid(unsafe_code)]
 #![warn(missing_docs)]
 
+mod answer;
 mod assignment;
 pub mod brute;
 mod cost_clause;
@@ -35,23 +38,9 @@ mod show;
 mod steps;
 mod weighted;
 
+pub use answer::{Answer, Verdict};
 pub use judge::{judge, oversize, sheet_is_valid};
 pub use show::{line, show};
 
 /// The bound, or the claim, "none". No sum of a sheet's costs comes near it.
 pub const NONE: u64 = u64::MAX;
-
-/// The judgement on a sheet and a record.
-#[derive(Clone, Copy, Debug, PartialEq, Eq)]
-pub struct Answer {
-    /// 0 for an acceptance, else the refusal's number.
-    pub number: u32,
-    /// The clause or step that the refusal names; 0 for an acceptance and where there is none to name.
-    pub place: u64,
-    /// The claim, [`NONE`] included; 0 with a refusal.
-    pub cost: u64,
-    /// How many variables the assignment makes true; 0 with a refusal and under the claim "none".
-    pub open_count: u64,
-    /// How many steps the record has; 0 with a refusal.
-    pub step_count: u64,
-}

@@ -1,5 +1,8 @@
 //! `reference SHEET RECORD` prints the judgement's line. A test tool: nothing here is proved.
+//!
+//! The exit code is 0 for an acceptance alone, 1 for a refusal and 3 for "within"; 2 where there was nothing to judge.
 
+use reference::{judge, line, Verdict};
 use std::process::ExitCode;
 
 const HELP: &str =
@@ -21,7 +24,11 @@ fn main() -> ExitCode {
             }
         }
     }
-    let answer = reference::judge(&files[0], &files[1]);
-    println!("{}", reference::line(&answer));
-    ExitCode::from(u8::from(answer.number != 0))
+    let answer = judge(&files[0], &files[1]);
+    println!("{}", line(&answer));
+    match answer.verdict() {
+        Verdict::Least | Verdict::NoneExists => ExitCode::SUCCESS,
+        Verdict::Refused => ExitCode::from(1),
+        Verdict::Within => ExitCode::from(3),
+    }
 }

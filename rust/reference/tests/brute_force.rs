@@ -3,7 +3,7 @@
 mod common;
 
 use common::*;
-use reference::brute::{confirms, least_cost, within_reach};
+use reference::brute::{confirms, confirms_within, least_cost, within_reach};
 use reference::{judge, Answer};
 
 #[test]
@@ -49,6 +49,7 @@ fn it_does_not_reach_a_sheet_that_is_not_valid() {
     assert!(!within_reach(&[]));
     assert!(!within_reach(&sheet(&[7], &[&[0]])));
     assert!(!confirms(&[], &record_a(), &accepted(3, 1, 5)));
+    assert!(!confirms_within(&[], &record_a4(), &within(5, 8, 2, 5)));
 }
 
 #[test]
@@ -99,6 +100,8 @@ fn it_does_not_confirm_what_the_record_does_not_say() {
             ..right
         },
         Answer { place: 1, ..right },
+        Answer { gap: 1, ..right },
+        Answer { gap: 3, ..right },
         Answer {
             cost: NONE,
             open_count: 0,
@@ -163,4 +166,91 @@ fn it_does_not_confirm_a_record_without_an_assignment() {
     }
     // The steps are not needed.
     assert!(confirms(&sheet_a(), &record_a()[..13], &accepted(3, 1, 5)));
+}
+
+/// The gap is confirmed as within and never as an acceptance.
+#[test]
+fn it_confirms_the_gap_of_a4() {
+    let answer = judge(&sheet_a(), &record_a4());
+    assert!(confirms_within(&sheet_a(), &record_a4(), &answer));
+    assert!(!confirms(&sheet_a(), &record_a4(), &answer));
+}
+
+/// The least is 3 and the cost is 8. A greater gap says less, down to nothing at all; one beyond the cost is no
+/// record's.
+#[test]
+fn it_confirms_a_gap_that_leaves_no_model_below() {
+    let confirmed = |gap| {
+        confirms_within(
+            &sheet_a(),
+            &record_a4(),
+            &Answer {
+                gap,
+                ..accepted(8, 2, 5)
+            },
+        )
+    };
+    for gap in 5..=8 {
+        assert!(confirmed(gap));
+    }
+    for gap in [0, 1, 4, 9, 1 << 32, NONE] {
+        assert!(!confirmed(gap));
+    }
+}
+
+/// A gap at the least cost is true too: nothing says that a dearer one is meant.
+#[test]
+fn it_confirms_a_gap_at_the_least_cost() {
+    assert!(confirms_within(
+        &sheet_a(),
+        &record_a(),
+        &within(3, 3, 1, 5)
+    ));
+    assert!(!confirms_within(
+        &sheet_a(),
+        &record_a(),
+        &accepted(3, 1, 5)
+    ));
+}
+
+#[test]
+fn it_does_not_confirm_a_gap_with_what_the_record_does_not_say() {
+    let right = within(5, 8, 2, 5);
+    let not_said = [
+        Answer { cost: 9, ..right },
+        Answer {
+            open_count: 1,
+            ..right
+        },
+        Answer {
+            step_count: 4,
+            ..right
+        },
+        Answer { place: 1, ..right },
+        Answer {
+            number: 19,
+            ..right
+        },
+        refused(19, 5),
+    ];
+    assert!(confirms_within(&sheet_a(), &record_a4(), &right));
+    for answer in not_said {
+        assert!(!confirms_within(&sheet_a(), &record_a4(), &answer));
+    }
+}
+
+#[test]
+fn it_does_not_confirm_a_gap_of_a_false_claim() {
+    // The gap is the whole claim, so that whatever is missing is missing from the claim.
+    let confirmed = |claim, bits: u8, open_count| {
+        let record = record(claim, &[bits], &steps_a());
+        let answer = within(claim, claim, open_count, 5);
+        confirms_within(&sheet_a(), &record, &answer)
+    };
+    assert!(confirmed(8, 0b11, 2));
+    assert!(confirmed(3, 0b01, 1));
+    assert!(!confirmed(5, 0b10, 1), "clause 2 is broken");
+    assert!(!confirmed(9, 0b11, 2), "this one costs 8");
+    assert!(!confirmed(8, 0b111, 3), "there is no variable 3");
+    assert!(!confirmed(NONE, 0b00, 0), "none is no cost");
 }

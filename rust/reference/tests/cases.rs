@@ -1,5 +1,5 @@
 //! The lettered cases of document 01, but for D, which has its own file. C3 and C4 have their numbers from document
-//! 02's change 1.
+//! 02's change 1, and A4 is within by its change 3.
 
 mod common;
 
@@ -42,9 +42,9 @@ fn a3_arrangement_02() {
 
 #[test]
 fn a4_arrangement_03_claim_8() {
-    let record = edited(&record_a(), 12, &[0x03]);
-    let record = edited(&record, 0, &8_u64.to_le_bytes());
-    assert_eq!(judge(&sheet_a(), &record), refused(19, 5));
+    let answer = judge(&sheet_a(), &record_a4());
+    assert_eq!(answer, within(5, 8, 2, 5));
+    assert_eq!(line(&answer), "within 5 cost 8 open 2 steps 5");
 }
 
 #[test]

@@ -19,5 +19,8 @@ fn every_example_gives_its_line() {
         assert_eq!(printed.as_bytes(), wanted, "{}", folder.display());
         judged += 1;
     }
-    assert_eq!(judged, 18, "A1 to A8, B1, B2, C1 to C4, D, E, W1 and W2");
+    assert_eq!(
+        judged, 19,
+        "A1 to A8, B1, B2, C1 to C4, D, E, S1, W1 and W2"
+    );
 }

@@ -21,7 +21,7 @@ fn judge_with(step_number: usize, body: Vec<u8>) -> Answer {
     judge_steps(&steps)
 }
 
-/// What a step in order is answered where it does not close: the step itself was not refused.
+/// What a step in order is answered where it has literals, so that it does not close: the step itself was not refused.
 const PASSES: (u32, u64) = (19, 1);
 
 fn assert_step(body: Vec<u8>, (number, place): (u32, u64)) {
@@ -30,7 +30,7 @@ fn assert_step(body: Vec<u8>, (number, place): (u32, u64)) {
 
 #[test]
 fn refusal_8_body_too_short() {
-    assert_step(cost_step(&[], 0), PASSES);
+    assert_eq!(judge_step(cost_step(&[], 0)), within(3, 3, 1, 1));
     for length in 0..12 {
         assert_step(cost_step(&[], 0)[..length].to_vec(), (8, 1));
     }
@@ -218,14 +218,15 @@ fn refusal_12_a_bound_that_is_not_none() {
 
 #[test]
 fn refusal_13_a_bound_that_is_not_the_sum() {
-    let cases: [(&[u16], u64); 4] = [
-        (&[], 0),
-        (&[pos(1), pos(2)], 0),
-        (&[pos(1), neg(2)], 5),
-        (&[neg(1), neg(2)], 8),
+    let passes = refused(19, 1);
+    let cases: [(&[u16], u64, Answer); 4] = [
+        (&[], 0, within(3, 3, 1, 1)),
+        (&[pos(1), pos(2)], 0, passes),
+        (&[pos(1), neg(2)], 5, passes),
+        (&[neg(1), neg(2)], 8, passes),
     ];
-    for (codes, sum) in cases {
-        assert_step(cost_step(codes, sum), PASSES);
+    for (codes, sum, answer) in cases {
+        assert_eq!(judge_step(cost_step(codes, sum)), answer);
         for wrong in [sum.wrapping_sub(1), sum + 1, sum + (1 << 32), NONE] {
             assert_step(cost_step(codes, wrong), (13, 1));
         }
@@ -359,10 +360,12 @@ fn refusal_19_literals_left_at_the_end() {
 }
 
 #[test]
-fn refusal_19_only_the_last_step_can_close() {
+fn only_the_last_step_can_close() {
     let mut steps = steps_a();
-    steps.push(cost_step(&[], 0));
+    steps.push(cost_step(&[neg(1)], 3));
     assert_eq!(judge_steps(&steps), refused(19, 6));
+    steps[5] = cost_step(&[], 0);
+    assert_eq!(judge_steps(&steps), within(3, 3, 1, 6));
     steps.push(resolution_step(&[], 3, 3, 4, 1));
     assert_eq!(judge_steps(&steps), accepted(3, 1, 7));
 }

@@ -4,7 +4,7 @@
 mod common;
 
 use common::*;
-use reference::brute::{confirms, least_cost};
+use reference::brute::{confirms, confirms_within, least_cost};
 use reference::judge;
 
 /// A sheet as lists, and a step of kind 5 but for its bound.
@@ -128,6 +128,7 @@ struct Seen {
     without_model: u32,
     tight: u32,
     closing: u32,
+    within: u32,
 }
 
 impl Seen {
@@ -177,6 +178,7 @@ fn random_weights_state_what_is_true_of_every_model() {
 }
 
 /// Without literals the step is the close of a record that claims its bound, if that is what the best model costs.
+/// Every other model is told how much dearer than the bound it is.
 #[test]
 fn random_weights_close_at_the_least_cost_and_above_it_never() {
     let mut numbers = Numbers::from(6);
@@ -196,11 +198,15 @@ fn random_weights_close_at_the_least_cost_and_above_it_never() {
                 assert!(confirms(&sheet, &record, &answer));
                 seen.closing += u32::from(bound > 0);
             } else {
-                assert_eq!(answer, refused(19, 1));
+                let gap = case.cost(x) - bound;
+                let open_count = u64::from(x.count_ones());
+                assert_eq!(answer, within(gap, case.cost(x), open_count, 1));
+                assert!(confirms_within(&sheet, &record, &answer));
+                seen.within += u32::from(bound > 0);
             }
         }
     }
-    assert!(seen.closing > 100);
+    assert!(seen.closing > 100 && seen.within > 1_000);
 }
 
 /// The lists of literals over variables 1 and 2: each positive, negative or not there.

@@ -89,7 +89,7 @@ fn example_3_resolved_to_the_close() {
     assert_eq!(judged(11, 0b10_1001), accepted(11, 3, 5));
     assert_eq!(judged(11, 0b10_0110), accepted(11, 3, 5));
     // Variables 1, 3, 4 and 6 do it too, and cost 14.
-    assert_eq!(judged(14, 0b10_1101), refused(19, 5));
+    assert_eq!(judged(14, 0b10_1101), within(3, 14, 4, 5));
     assert_eq!(judged(NONE, 0), refused(19, 5));
 }
 
@@ -104,7 +104,7 @@ fn example_3_in_one_step() {
     assert_eq!(judged(11, 0b10_1001, 11), accepted(11, 3, 1));
     assert_eq!(judged(11, 0b10_1001, 10), refused(24, 1));
     assert_eq!(judged(11, 0b10_1001, 12), refused(24, 1));
-    assert_eq!(judged(14, 0b10_1101, 11), refused(19, 1));
+    assert_eq!(judged(14, 0b10_1101, 11), within(3, 14, 4, 1));
 }
 
 /// Document 001's example 4: clause 1 alone, at weight 1, and variable 1 alone settled.
@@ -178,7 +178,7 @@ fn rounding_up_can_make_the_close() {
     assert_eq!(judged(2, &[1, 1, 1], 1), refused(24, 1));
     assert_eq!(judged(2, &[1, 1, 1], 3), refused(24, 1));
     assert_eq!(judged(1, &[1, 1, 1], 2), refused(24, 1));
-    assert_eq!(judged(1, &[1, 1, 1], 0), refused(19, 1));
+    assert_eq!(judged(1, &[1, 1, 1], 0), within(2, 2, 2, 1));
 }
 
 #[test]
@@ -510,7 +510,7 @@ fn weighted_clauses_are_premises_like_any_others() {
     let sheet = sheet(&[2, 5, 4], &clauses);
     let judged = |claim, bits| judge(&sheet, &record(claim, &[bits], &steps));
     assert_eq!(judged(5, 0b010), accepted(5, 1, 3));
-    assert_eq!(judged(6, 0b101), refused(19, 3));
+    assert_eq!(judged(6, 0b101), within(1, 6, 2, 3));
 }
 
 /// Two variables at the greatest cost, true, and the greatest divisor: no sum may be cut at 32 bits or at 48.

@@ -3,6 +3,8 @@
 // Every test file compiles its own copy of this module and uses a part of it.
 #![allow(dead_code)]
 
+pub mod derivation;
+
 use reference::Answer;
 
 pub use reference::NONE;
@@ -114,7 +116,23 @@ pub fn weighted_step(codes: &[u16], bound: u64, divisor: u16, entries: &[(u32, u
     step(5, codes, bound, &tail)
 }
 
-/// An acceptance.
+/// What a step body states: how many literals there are, and the bound.
+pub fn stated(body: &[u8]) -> (u16, u64) {
+    let literal_count = u16::from_le_bytes(body[2..4].try_into().unwrap());
+    let bound = u64::from_le_bytes(body[4..12].try_into().unwrap());
+    (literal_count, bound)
+}
+
+/// What the last step of a record that can be read states.
+pub fn stated_last(sheet: &[u8], record: &[u8]) -> (u16, u64) {
+    let in_4_bytes = |at: usize| u32::from_le_bytes(record[at..at + 4].try_into().unwrap());
+    let variable_count = u16::from_le_bytes([sheet[0], sheet[1]]);
+    let pairs_start = 12 + variable_count.div_ceil(8) as usize;
+    let last_pair = pairs_start + 8 * (in_4_bytes(8) as usize - 1);
+    stated(&record[in_4_bytes(last_pair) as usize..])
+}
+
+/// An acceptance: least, or none where the cost is [`NONE`].
 pub fn accepted(cost: u64, open_count: u64, step_count: u64) -> Answer {
     Answer {
         number: 0,
@@ -122,6 +140,16 @@ pub fn accepted(cost: u64, open_count: u64, step_count: u64) -> Answer {
         cost,
         open_count,
         step_count,
+        gap: 0,
+    }
+}
+
+/// Neither an acceptance nor a refusal. The order is that of the printed line.
+pub fn within(gap: u64, cost: u64, open_count: u64, step_count: u64) -> Answer {
+    assert_ne!(gap, 0, "an answer without a gap is an acceptance");
+    Answer {
+        gap,
+        ..accepted(cost, open_count, step_count)
     }
 }
 
@@ -133,6 +161,7 @@ pub fn refused(number: u32, place: u64) -> Answer {
         cost: 0,
         open_count: 0,
         step_count: 0,
+        gap: 0,
     }
 }
 
@@ -166,6 +195,12 @@ pub fn record_a() -> Vec<u8> {
          04 00 01 00 FF FF FF FF FF FF FF FF 02 00 01 00 00 00 02 00 00 00 02 00
          02 00 01 00 03 00 00 00 00 00 00 00 03 00
          04 00 00 00 03 00 00 00 00 00 00 00 03 00 00 00 04 00 00 00 01 00")
+}
+
+/// Case A4: both variables true, so the claim is 8, over the same steps, which end with the bound 3.
+pub fn record_a4() -> Vec<u8> {
+    let both_true = edited(&record_a(), 12, &[0x03]);
+    edited(&both_true, 0, &8_u64.to_le_bytes())
 }
 
 /// The five steps of record A, by the builders.
