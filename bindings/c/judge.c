@@ -1,4 +1,5 @@
-/* Judges a record from C: prints the answer's line; exits with 0 for an acceptance, 1 for a refusal, 2 where it cannot tell.
+/* Judges a record from C: prints the answer's line; exits with 0 for an acceptance, which is `least` or `none`, 1 for a refusal,
+ * 2 where it cannot tell, and 3 for `within`: a plan with a gap, neither accepted nor refused.
  *
  * Build, at the repository's root, after `rt staticlib exports`:
  *
@@ -56,12 +57,23 @@ static int read_file(const char *path, struct file *file)
     return done;
 }
 
+/* What the program exits with. The gap is looked at too: that the number is 0 says only that nothing is refused. */
+static int exit_code(const uint64_t answer[6])
+{
+    if (answer[PLAN_NUMBER] != 0)
+        return 1;
+    return answer[PLAN_GAP] == 0 ? 0 : 3;
+}
+
 /* Returns 0 where the line cannot be written. */
-static int print_line(const uint64_t answer[5])
+static int print_line(const uint64_t answer[6])
 {
     int written;
     if (answer[PLAN_NUMBER] != 0)
         written = printf("refused %" PRIu64 " at %" PRIu64 "\n", answer[PLAN_NUMBER], answer[PLAN_PLACE]);
+    else if (answer[PLAN_GAP] != 0)
+        written = printf("within %" PRIu64 " cost %" PRIu64 " open %" PRIu64 " steps %" PRIu64 "\n", answer[PLAN_GAP],
+                         answer[PLAN_COST], answer[PLAN_OPEN_COUNT], answer[PLAN_STEP_COUNT]);
     else if (answer[PLAN_COST] == PLAN_NONE)
         written = printf("none open 0 steps %" PRIu64 "\n", answer[PLAN_STEP_COUNT]);
     else
@@ -79,10 +91,10 @@ int main(int count, char **words)
         return status;
     }
     if (read_file(words[1], &sheet) && read_file(words[2], &record)) {
-        uint64_t answer[5];
+        uint64_t answer[6];
         plan_judge(sheet.bytes, sheet.len, record.bytes, record.len, answer);
         if (print_line(answer))
-            status = answer[PLAN_NUMBER] == 0 ? 0 : 1;
+            status = exit_code(answer);
     }
     free(sheet.bytes);
     free(record.bytes);

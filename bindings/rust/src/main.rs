@@ -1,10 +1,11 @@
-//! Judges a record from Rust: prints the answer's line; exits with 0 for an acceptance, 1 for a refusal, 2 where it cannot
-//! tell.
+//! Judges a record from Rust: prints the answer's line; exits with 0 for an acceptance, which is `least` or `none`, 1 for a
+//! refusal, 2 where it cannot tell, and 3 for `within`: a plan with a gap, neither accepted nor refused.
 //!
 //! Run, in this folder, after `rt staticlib exports` at the repository's root:
 //!
 //!     cargo run --offline -- SHEET RECORD
 
+use proved::Verdict;
 use std::io::Write;
 use std::process::ExitCode;
 use std::{env, fs, io};
@@ -23,7 +24,11 @@ fn main() -> ExitCode {
     if writeln!(io::stdout(), "{}", answer.line()).is_err() {
         return ExitCode::from(2);
     }
-    ExitCode::from(if answer.accepts() { 0 } else { 1 })
+    ExitCode::from(match answer.verdict() {
+        Verdict::Least | Verdict::NoneExists => 0,
+        Verdict::Refused => 1,
+        Verdict::Within => 3,
+    })
 }
 
 fn read(path: &std::path::Path) -> Option<Vec<u8>> {

@@ -1,20 +1,16 @@
 //! Small files with the reference checker's answers, as theorems about the definitions of `crates/judgement`: the prover
 //! computes both sides, so a theorem that holds is an agreement, and one that is refused names its case.
 
-use reference::{judge, show, Answer};
+use reference::{judge, show, Answer, Verdict};
+use samples::outcome::{Outcome, Tally};
 use samples::Sample;
 use std::fmt::Write;
-
-/// The numbers that small files can meet: 1 needs a file of 4 GB.
-pub fn numbers() -> impl Iterator<Item = u32> {
-    (0..samples::NUMBERS as u32).filter(|number| *number != 1)
-}
 
 /// Longer files would spend the prover's time and show nothing more.
 const SHEET_BYTES: usize = 96;
 const RECORD_BYTES: usize = 200;
 
-/// How many samples are looked at before a number counts as never met.
+/// How many samples are looked at before an outcome counts as never met.
 const TRIES: usize = 2_000_000;
 
 pub struct Case {
@@ -24,19 +20,19 @@ pub struct Case {
     pub aimed: &'static str,
 }
 
-/// The first small samples of the stream, as many of each number, `count` in all or fewer where a number is rare.
+/// The first small samples of the stream, as many of each outcome, `count` in all or fewer where an outcome is rare.
 pub fn choose(seed: u64, count: usize) -> Vec<Case> {
-    let share = count.div_ceil(numbers().count());
-    let mut met = [0usize; samples::NUMBERS];
+    let share = count.div_ceil(Outcome::of_short_files().count());
+    let mut met = Tally::default();
     let mut cases = Vec::new();
     for sample in samples::stream(seed).take(TRIES) {
         if cases.len() >= count {
             break;
         }
         let Some(case) = small(sample) else { continue };
-        let number = case.answer.number as usize;
-        if met[number] < share {
-            met[number] += 1;
+        let outcome = Outcome::of(&case.answer);
+        if met.of(outcome) < share {
+            met.add(outcome);
             cases.push(case);
         }
     }
@@ -56,10 +52,13 @@ fn small(sample: Sample) -> Option<Case> {
     })
 }
 
-/// How many cases ended in each of the `numbers`.
-pub fn tally(cases: &[Case]) -> Vec<(u32, usize)> {
-    let of = |n: u32| cases.iter().filter(|c| c.answer.number == n).count();
-    numbers().map(|n| (n, of(n))).collect()
+/// How many cases met each outcome.
+pub fn tally(cases: &[Case]) -> Tally {
+    let mut tally = Tally::default();
+    for case in cases {
+        tally.add(Outcome::of(&case.answer));
+    }
+    tally
 }
 
 /// The module of theorems.
@@ -76,7 +75,7 @@ const HEAD: &str = "\
 -- Assumes nothing.
 use lib.Dec.{T}
 use Rattle.judgement.specs.Writer.{bytesOf}
-use Rattle.judgement.specs.Computed.{accepted, refused, right, shows}
+use Rattle.judgement.specs.Computed.{accepted, within, refused, right, shows}
 ";
 
 fn theorem(text: &mut String, i: usize, case: &Case) {
@@ -89,10 +88,10 @@ fn theorem(text: &mut String, i: usize, case: &Case) {
          unfolding bytesOf right\ncase-{i} = tt"
     )
     .unwrap();
-    // every step number of an accepted record in turn, and those around; of a refused one some number
+    // every step number in turn, and those around, of a record that is not refused; of a refused one some number
     let step = i as u64 % (case.answer.step_count + 2);
     let part = bytes(show(&case.sheet, &case.record, step));
-    if case.answer.number == 0 || i.is_multiple_of(8) {
+    if !case.answer.refuses() || i.is_multiple_of(8) {
         writeln!(
             text,
             "\nshown-{i} : T (shows ({sheet}) ({record}) {step} ({part}))\nunfolding bytesOf shows\nshown-{i} = tt"
@@ -102,10 +101,11 @@ fn theorem(text: &mut String, i: usize, case: &Case) {
 }
 
 fn answer(a: &Answer) -> String {
-    if a.number == 0 {
-        format!("accepted {} {} {}", a.cost, a.open_count, a.step_count)
-    } else {
-        format!("refused {} {}", a.number, a.place)
+    let claim = format!("{} {} {}", a.cost, a.open_count, a.step_count);
+    match a.verdict() {
+        Verdict::Least | Verdict::NoneExists => format!("accepted {claim}"),
+        Verdict::Within => format!("within {} {claim}", a.gap),
+        Verdict::Refused => format!("refused {} {}", a.number, a.place),
     }
 }
 

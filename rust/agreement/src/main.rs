@@ -1,5 +1,6 @@
-//! `agreement SEED COUNT FILE` writes a module of theorems (see the library) and prints how many cases ended in each number.
+//! `agreement SEED COUNT FILE` writes a module of theorems (see the library) and prints how many cases met each outcome.
 
+use samples::outcome::Outcome;
 use std::process::ExitCode;
 
 const HELP: &str = "agreement SEED COUNT FILE: write COUNT small cases, made from SEED, as theorems about the definitions";
@@ -16,14 +17,10 @@ fn main() -> ExitCode {
     };
     let cases = agreement::choose(seed, count);
     let tally = agreement::tally(&cases);
-    let list: Vec<String> = tally.iter().map(|(n, k)| format!("{n}: {k}")).collect();
-    println!(
-        "seed {seed}, {} cases, by number {}",
-        cases.len(),
-        list.join(", ")
-    );
-    if let Some((n, _)) = tally.iter().find(|(_, k)| *k == 0) {
-        eprintln!("no case ended in number {n}");
+    println!("seed {seed}, {} cases, {tally}", cases.len());
+    let mut outcomes = Outcome::of_short_files();
+    if let Some(missing) = outcomes.find(|outcome| tally.of(*outcome) == 0) {
+        eprintln!("no case met {missing}");
         return ExitCode::FAILURE;
     }
     if let Err(e) = std::fs::write(file, agreement::module(&cases)) {

@@ -17,7 +17,7 @@ const USAGE: &str = "usage: bench times MEGABYTES ROUNDS SET..
 const SEED: u64 = 11;
 const MEGABYTE: usize = 1_000_000;
 
-/// The sets of records. Those of long steps of one kind are to find out where the time goes.
+/// The sets of records, accepted ones all. Those of long steps of one kind are to find out where the time goes.
 const SETS: [(&str, Mix); 8] = [
     ("mixed", Mix::Mixed),
     ("resolution", Mix::Resolution),
@@ -77,10 +77,18 @@ fn times(size: &str, rounds: &str, sets: &[&str]) -> Option<()> {
     let size = bytes_of(size)?;
     let rounds = rounds.parse().ok().filter(|rounds| *rounds > 0)?;
     for name in sets {
-        let sample = samples::long(SEED, size, mix_of(name)?);
+        let sample = sample(size, mix_of(name)?);
         println!("{}", line(name, &sample, times_of(&sample, rounds)));
     }
     Some(())
+}
+
+/// A sample of a set. A record that is refused, or closes with a gap, would not be the work that is measured.
+fn sample(size: usize, mix: Mix) -> Sample {
+    let sample = samples::long(SEED, size, mix);
+    let answer = proved::judge(&sample.sheet, &sample.record);
+    assert!(answer.accepts(), "{mix:?}: {}", answer.line());
+    sample
 }
 
 fn mix_of(set: &str) -> Option<Mix> {
@@ -119,7 +127,7 @@ fn line(name: &str, sample: &Sample, [proved, merge, marks, bytes]: [f64; TIMED]
 
 /// Writes a sheet and a record to run `once` on.
 fn write(set: &str, size: &str, folder: &Path) -> Option<()> {
-    let sample = samples::long(SEED, bytes_of(size)?, mix_of(set)?);
+    let sample = sample(bytes_of(size)?, mix_of(set)?);
     for (name, bytes) in [("sheet", sample.sheet), ("record", sample.record)] {
         fs::write(folder.join(name), bytes).unwrap_or_else(|error| fail(name, &error));
     }

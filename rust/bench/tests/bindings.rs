@@ -1,7 +1,9 @@
-//! The example programs of `bindings/`, built and run: every plan of `examples/` gives its line, and the C program makes no
-//! memory error that valgrind sees, whatever the files hold.
+//! The example programs of `bindings/`, built and run: every plan of `examples/` gives its line and exit code, and the C program
+//! makes no memory error that valgrind sees, whatever the files hold.
 
+use reference::Verdict;
 use samples::examples::{example, examples, Example};
+use std::collections::BTreeMap;
 use std::fs;
 use std::path::{Path, PathBuf};
 use std::process::{Command, Output};
@@ -52,15 +54,27 @@ fn rust_program() -> PathBuf {
     target.join("debug/judge")
 }
 
+/// The exit code for a line, by its first word: 0 is for the acceptances alone.
+fn code_for(line: &str) -> i32 {
+    match line.split(' ').next() {
+        Some("least" | "none") => 0,
+        Some("refused") => 1,
+        Some("within") => 3,
+        _ => panic!("{line}"),
+    }
+}
+
 fn gives_every_line(program: &Path) {
+    let mut met: BTreeMap<i32, usize> = BTreeMap::new();
     for example in examples() {
         let files = ["sheet", "record"].map(|name| example.folder.join(name));
         let output = run(Command::new(program).args(files));
         let (line, place) = (example.line, example.folder.display());
         assert_eq!(String::from_utf8_lossy(&output.stdout), line, "{place}");
-        let refused = line.starts_with("refused");
-        assert_eq!(output.status.code(), Some(i32::from(refused)));
+        assert_eq!(output.status.code(), Some(code_for(&line)), "{place}");
+        *met.entry(code_for(&line)).or_default() += 1;
     }
+    assert_eq!(met.keys().copied().collect::<Vec<_>>(), [0, 1, 3]);
 }
 
 fn tells_wrong_use(program: &Path) {
@@ -104,7 +118,11 @@ fn clean(program: &Path, sheet: &[u8], record: &[u8], what: &str) {
     let output = run(command.arg(program).args(files));
     let said = String::from_utf8_lossy(&output.stderr);
     let answer = reference::judge(sheet, record);
-    let wanted = i32::from(answer.number != 0);
+    let wanted = match answer.verdict() {
+        Verdict::Least | Verdict::NoneExists => 0,
+        Verdict::Refused => 1,
+        Verdict::Within => 3,
+    };
     assert_eq!(output.status.code(), Some(wanted), "{what}\n{said}");
     let line = reference::line(&answer) + "\n";
     assert_eq!(String::from_utf8_lossy(&output.stdout), line, "{what}");
@@ -116,6 +134,8 @@ fn the_c_program_makes_no_memory_error() {
     let program = c_program("valgrind");
     let Example { sheet, record, .. } = example("D");
     clean(&program, &sheet, &record, "valid");
+    let stopped = example("S1");
+    clean(&program, &stopped.sheet, &stopped.record, "with a gap");
     clean(&program, &[], &[], "two empty files");
     clean(&program, &sheet, &[], "an empty record");
     clean(&program, &[], &record, "an empty sheet");

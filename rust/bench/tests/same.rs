@@ -3,38 +3,41 @@
 use bench::{judge, Marks, Merge};
 use planner::padding::{Kind, Mix};
 use proved::Answer;
-use samples::NUMBERS;
+use samples::outcome::{Outcome, Tally};
 
 const COUNT: usize = 50_000;
 
-fn wanted(sheet: &[u8], record: &[u8]) -> Answer {
-    let a = reference::judge(sheet, record);
+fn wanted(a: &reference::Answer) -> Answer {
     Answer {
         number: u64::from(a.number),
         place: a.place,
         cost: a.cost,
         open_count: a.open_count,
         step_count: a.step_count,
+        gap: a.gap,
     }
 }
 
-fn same(sheet: &[u8], record: &[u8], what: &str) -> u64 {
-    let wanted = wanted(sheet, record);
+fn same(sheet: &[u8], record: &[u8], what: &str) -> Outcome {
+    let answer = reference::judge(sheet, record);
+    let wanted = wanted(&answer);
     let files = || format!("{what}\nsheet {sheet:02x?}\nrecord {record:02x?}");
     assert_eq!(judge::<Merge>(sheet, record), wanted, "merge, {}", files());
     assert_eq!(judge::<Marks>(sheet, record), wanted, "marks, {}", files());
-    wanted.number
+    Outcome::of(&answer)
 }
 
 #[test]
 fn on_generated_and_damaged_records() {
-    let mut met = [0usize; NUMBERS];
+    let mut met = Tally::default();
     for sample in samples::stream(5).take(COUNT) {
-        met[same(&sample.sheet, &sample.record, sample.aimed) as usize] += 1;
+        met.add(same(&sample.sheet, &sample.record, sample.aimed));
     }
-    for number in (0..NUMBERS).filter(|n| *n != 1) {
-        assert!(met[number] > 0, "no sample met {number}");
+    println!("{met}");
+    for outcome in Outcome::of_short_files() {
+        assert!(met.of(outcome) > 0, "no sample met {outcome}");
     }
+    assert!(met.of(Outcome::Within) > 500);
 }
 
 #[test]
@@ -46,7 +49,7 @@ fn on_longer_records() {
         Mix::LongOf(Kind::Linear),
     ] {
         let sample = samples::long(7, 300_000, mix);
-        assert_eq!(same(&sample.sheet, &sample.record, "long"), 0);
+        assert!(same(&sample.sheet, &sample.record, "long").accepts());
         let mut damaged = sample.record;
         for part in 1..40 {
             let place = damaged.len() * part / 40;
@@ -59,5 +62,6 @@ fn on_longer_records() {
 
 #[test]
 fn on_empty_files() {
-    assert_eq!(same(&[], &[], "two empty files"), 2);
+    let told = same(&[], &[], "two empty files");
+    assert_eq!(told, Outcome::Refused(2));
 }

@@ -11,6 +11,7 @@ pub fn judge(sheet: &[u8], record: &[u8]) -> Answer {
         cost: a.cost,
         open_count: a.open_count,
         step_count: a.step_count,
+        gap: a.gap,
     }
 }
 

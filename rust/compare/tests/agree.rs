@@ -6,8 +6,9 @@ use planner::padding::Mix;
 use proved::show;
 use samples::draft::{overwrite, read_u32, read_u64};
 use samples::examples::{examples, Example};
+use samples::outcome::{Outcome, Tally};
 use samples::weights::largest;
-use samples::{long_with_weights, Sample, NUMBERS};
+use samples::{long_with_weights, Sample};
 
 /// How many samples are compared, unless COMPARE_COUNT says otherwise; from which seed, unless COMPARE_SEED does.
 const COUNT: usize = 200_000;
@@ -24,7 +25,8 @@ fn setting<T: std::str::FromStr>(name: &str, otherwise: T) -> T {
     })
 }
 
-fn same(sheet: &[u8], record: &[u8], what: &str) -> u32 {
+/// The outcome, where answer and line are the same.
+fn same(sheet: &[u8], record: &[u8], what: &str) -> Outcome {
     let ours = judge(sheet, record);
     let wanted = reference::judge(sheet, record);
     assert_eq!(
@@ -34,7 +36,9 @@ fn same(sheet: &[u8], record: &[u8], what: &str) -> u32 {
         hex(sheet),
         hex(record)
     );
-    ours.number
+    let line = proved::judge(sheet, record).line();
+    assert_eq!(line, reference::line(&wanted), "{what}");
+    Outcome::of(&ours)
 }
 
 fn same_part(sheet: &[u8], record: &[u8], step: u32, what: &str) {
@@ -67,11 +71,19 @@ fn on_every_example() {
     }
 }
 
+/// How often an outcome is met at least. A gap hangs on more of a record's numbers than a refusal does, so many are compared.
+fn enough(outcome: Outcome, count: usize) -> usize {
+    match outcome {
+        Outcome::Least | Outcome::NoneExists | Outcome::Within => (count / 200).max(1),
+        Outcome::Refused(_) => 1,
+    }
+}
+
 #[test]
 fn on_generated_and_damaged_records() {
     let count = setting("COMPARE_COUNT", COUNT);
     let seed = setting("COMPARE_SEED", SEED);
-    let mut met = [0usize; NUMBERS];
+    let mut met = Tally::default();
     for (
         i,
         Sample {
@@ -81,17 +93,39 @@ fn on_generated_and_damaged_records() {
         },
     ) in samples::stream(seed).take(count).enumerate()
     {
-        let number = same(&sheet, &record, aimed);
-        met[number as usize] += 1;
-        // a step number in and around the record's range; every tenth sample, since showing judges again
-        if i % 10 == 0 {
+        let outcome = same(&sheet, &record, aimed);
+        met.add(outcome);
+        // a step number in and around the record's range; every tenth sample, since showing judges again, and of those with a
+        // gap all
+        if i % 10 == 0 || outcome == Outcome::Within {
             same_part(&sheet, &record, (i / 10 % 12) as u32, aimed);
         }
     }
-    println!("seed {seed}, {count} samples, by number {met:?}");
-    for number in (0..NUMBERS).filter(|n| *n != 1) {
-        assert!(met[number] > 0, "no sample met {number}");
+    println!("seed {seed}, {count} samples, {met}");
+    for outcome in Outcome::of_short_files() {
+        let few = enough(outcome, count);
+        assert!(met.of(outcome) >= few, "under {few} met {outcome}");
     }
+}
+
+/// Every step of records with a gap is shown, and so are the numbers around.
+#[test]
+fn on_steps_of_records_with_a_gap() {
+    let (mut records, mut shown) = (0, 0);
+    for sample in samples::stream(9).take(20_000) {
+        let (sheet, record) = (&sample.sheet, &sample.record);
+        if same(sheet, record, sample.aimed) != Outcome::Within {
+            continue;
+        }
+        let steps = judge(sheet, record).step_count as u32;
+        for step in (0..=steps + 1).chain([u32::MAX]) {
+            same_part(sheet, record, step, sample.aimed);
+            shown += usize::from(!show(sheet, record, step).is_empty());
+        }
+        records += 1;
+    }
+    println!("{records} records with a gap, {shown} steps with literals");
+    assert!(records > 200 && shown > 1_000);
 }
 
 #[test]
@@ -108,7 +142,7 @@ fn on_longer_records() {
 }
 
 fn on_a_longer_record(sample: Sample) {
-    assert_eq!(same(&sample.sheet, &sample.record, "long"), 0);
+    assert!(same(&sample.sheet, &sample.record, "long").accepts());
     let mut damaged = sample.record.clone();
     let middle = damaged.len() / 2;
     for place in [middle, damaged.len() - 9, damaged.len() - 1] {
@@ -122,7 +156,7 @@ fn on_a_longer_record(sample: Sample) {
 #[test]
 fn on_longer_records_with_one_byte_changed() {
     const CHANGES: usize = 2_000;
-    let mut met = [0usize; NUMBERS];
+    let mut met = Tally::default();
     let mixes = [(4, Mix::Mixed), (5, Mix::Resolution), (5, Mix::Long)];
     let mut long = mixes
         .map(|(seed, mix)| samples::long(seed, 50_000, mix))
@@ -135,15 +169,16 @@ fn on_longer_records_with_one_byte_changed() {
             // All over the record, and each bit in turn.
             let place = i * 7_919 % record.len();
             changed[place] ^= 1 << (i % 8);
-            met[same(&sheet, &changed, "long, one bit changed") as usize] += 1;
+            met.add(same(&sheet, &changed, "long, one bit changed"));
             changed[place] = record[place];
         }
     }
-    println!("{CHANGES} changes of each record, by number {met:?}");
+    println!("{CHANGES} changes of each record, {met}");
     // One bit seldom takes a clause's last unsettled variable, frees one that two share, or makes a weight 0: 21, 22 and 23
     // are met once or a few times.
     for number in [7, 8, 9, 12, 13, 14, 15, 16, 17, 18, 20, 21, 22, 23, 24] {
-        assert!(met[number] > 0, "no change met {number}");
+        let count = met.of(Outcome::Refused(number));
+        assert!(count > 0, "no change met {number}");
     }
 }
 
@@ -157,12 +192,13 @@ fn on_largest_weights() {
         aimed,
     } in largest::samples(4)
     {
-        assert_eq!(same(&sheet, &record, aimed), 0);
+        assert!(same(&sheet, &record, aimed).accepts());
     }
     for sample in largest::samples(1_024) {
         let Sample { sheet, record, .. } = sample;
         let answer = judge(&sheet, &record);
-        assert_eq!((answer.number, answer.step_count), (0, 2));
+        assert!(answer.accepts(), "{answer:?}");
+        assert_eq!(answer.step_count, 2);
         for (step, more) in [(1, 1), (1, -1), (2, 1)] {
             let Some(changed) = with_other_bound(&record, step, more) else {
                 continue;
@@ -195,7 +231,8 @@ fn on_empty_files() {
 fn refusal_1_on_files_of_4_gigabytes() {
     let too_long = vec![0_u8; LONGEST_FILE + 1];
     let longest = &too_long[1..];
-    assert_eq!(same(&too_long, &[], "a sheet that is too long"), 1);
-    assert_eq!(same(&[], &too_long, "a record that is too long"), 1);
-    assert_eq!(same(longest, longest, "two files at the limit"), 2);
+    let refused = Outcome::Refused;
+    assert_eq!(same(&too_long, &[], "a sheet too long"), refused(1));
+    assert_eq!(same(&[], &too_long, "a record too long"), refused(1));
+    assert_eq!(same(longest, longest, "both at the limit"), refused(2));
 }

@@ -1,7 +1,9 @@
 //! The printing program, run in folders of its own: every printed form and every message. `rt check print`, at the
 //! repository's root, builds it.
 
+use reference::Verdict;
 use samples::examples::{example, examples, Example, COUNT};
+use samples::Sample;
 use std::fs;
 use std::path::{Path, PathBuf};
 use std::process::Command;
@@ -65,6 +67,28 @@ fn every_example_prints_its_line() {
         printed += 1;
     }
     assert_eq!(printed, COUNT);
+}
+
+/// Claims, gaps and counts of many lengths, which the examples have not.
+#[test]
+fn records_with_a_gap_print_their_lines() {
+    let (mut printed, mut widest) = (0, 0);
+    for Sample { sheet, record, .. } in samples::stream(10).take(8_000) {
+        let answer = reference::judge(&sheet, &record);
+        let read = sheet.len().max(record.len()) <= LONGEST;
+        if answer.verdict() != Verdict::Within || !read {
+            continue;
+        }
+        let folder = Folder::new("within");
+        let folder = folder.with("sheet", &sheet).with("record", &record);
+        let line = reference::line(&answer) + "\n";
+        assert!(line.starts_with(&format!("within {} cost ", answer.gap)));
+        assert_eq!(folder.printed(), line);
+        printed += 1;
+        widest = widest.max(answer.gap);
+    }
+    println!("{printed} lines, with gaps up to {widest}");
+    assert!(printed > 80 && widest > u64::from(u32::MAX));
 }
 
 #[test]

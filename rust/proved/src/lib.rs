@@ -6,36 +6,69 @@
 /// The answer to a sheet and a record.
 #[derive(Clone, Copy, Debug, PartialEq, Eq)]
 pub struct Answer {
-    /// 0 for an acceptance, else the refusal's number.
+    /// The refusal's number, 0 where the record is not refused. That alone is no acceptance: see [`Answer::verdict`].
     pub number: u64,
     /// The clause or the step that the refusal names, 0 where there is none.
     pub place: u64,
-    /// The claim of an accepted record, [`NONE`] included.
+    /// The claim of a record that is not refused, [`NONE`] included.
     pub cost: u64,
-    /// How many variables the accepted record's assignment makes true.
+    /// How many variables its assignment makes true.
     pub open_count: u64,
-    /// How many steps the accepted record has.
+    /// How many steps it has.
     pub step_count: u64,
+    /// How far the claim may lie above the least cost: above 0 for [`Verdict::Within`], 0 for every other answer.
+    pub gap: u64,
+}
+
+/// What an answer says. The first two are acceptances, the third is neither that nor a refusal.
+#[derive(Clone, Copy, Debug, PartialEq, Eq)]
+pub enum Verdict {
+    /// The claim is the least cost.
+    Least,
+    /// No assignment satisfies every clause.
+    NoneExists,
+    /// The assignment satisfies every clause at the claimed cost, and no assignment that does costs less than this minus the gap.
+    Within,
+    /// One of the numbered refusals.
+    Refused,
 }
 
 /// The claim that no assignment satisfies every clause.
 pub const NONE: u64 = u64::MAX;
 
 impl Answer {
-    /// Whether the record is accepted.
+    /// Which of the four it is.
+    pub fn verdict(&self) -> Verdict {
+        match (self.number, self.gap, self.cost) {
+            (0, 0, NONE) => Verdict::NoneExists,
+            (0, 0, _) => Verdict::Least,
+            (0, _, _) => Verdict::Within,
+            _ => Verdict::Refused,
+        }
+    }
+
+    /// Whether the record is accepted: its claim is the least cost, or it is true that none exists.
     pub fn accepts(&self) -> bool {
-        self.number == 0
+        matches!(self.verdict(), Verdict::Least | Verdict::NoneExists)
     }
 
     /// The printed line, without its newline.
     pub fn line(&self) -> String {
-        match (self.number, self.cost) {
-            (0, NONE) => format!("none open 0 steps {}", self.step_count),
-            (0, cost) => format!(
-                "least {cost} open {} steps {}",
-                self.open_count, self.step_count
-            ),
-            (number, _) => format!("refused {number} at {}", self.place),
+        let Answer {
+            number,
+            place,
+            cost,
+            open_count,
+            step_count,
+            gap,
+        } = self;
+        match self.verdict() {
+            Verdict::Least => format!("least {cost} open {open_count} steps {step_count}"),
+            Verdict::NoneExists => format!("none open 0 steps {step_count}"),
+            Verdict::Within => {
+                format!("within {gap} cost {cost} open {open_count} steps {step_count}")
+            }
+            Verdict::Refused => format!("refused {number} at {place}"),
         }
     }
 }
@@ -61,8 +94,8 @@ extern "C" {
 
 /// The judgement of a record, any bytes.
 pub fn judge(sheet: &[u8], record: &[u8]) -> Answer {
-    let mut numbers = [0u64; 5];
-    // SAFETY: both slices may be read, and the array has the five places that are written.
+    let mut numbers = [0u64; 6];
+    // SAFETY: both slices may be read, and the array has the six places that are written.
     unsafe {
         plan_judge(
             sheet.as_ptr(),
@@ -72,13 +105,14 @@ pub fn judge(sheet: &[u8], record: &[u8]) -> Answer {
             numbers.as_mut_ptr(),
         );
     }
-    let [number, place, cost, open_count, step_count] = numbers;
+    let [number, place, cost, open_count, step_count, gap] = numbers;
     Answer {
         number,
         place,
         cost,
         open_count,
         step_count,
+        gap,
     }
 }
 
@@ -108,9 +142,9 @@ mod tests {
     use std::ptr::null;
 
     /// Both calls, on files by pointer and length.
-    fn called(sheet: (*const u8, usize), record: (*const u8, usize)) -> ([u64; 5], [u64; 3]) {
+    fn called(sheet: (*const u8, usize), record: (*const u8, usize)) -> ([u64; 6], [u64; 3]) {
         // Not what may be answered, so that every number is seen to be written.
-        let (mut answer, mut part) = ([7; 5], [7; 3]);
+        let (mut answer, mut part) = ([7; 6], [7; 3]);
         // SAFETY: each pointer has that many bytes behind it, none where it is null, and the arrays have their places.
         unsafe {
             plan_judge(sheet.0, sheet.1, record.0, record.1, answer.as_mut_ptr());
@@ -130,9 +164,9 @@ mod tests {
         );
         // One step without literals: they end where the record does.
         let end = record.1 as u64;
-        assert_eq!(called(sheet, record), ([0, 0, 0, 0, 1], [0, end, 0]));
-        assert_eq!(called(nothing, nothing), ([2, 0, 0, 0, 0], [0; 3]));
-        assert_eq!(called(nothing, record), ([2, 0, 0, 0, 0], [0; 3]));
-        assert_eq!(called(sheet, nothing), ([5, 0, 0, 0, 0], [0; 3]));
+        assert_eq!(called(sheet, record), ([0, 0, 0, 0, 1, 0], [0, end, 0]));
+        assert_eq!(called(nothing, nothing), ([2, 0, 0, 0, 0, 0], [0; 3]));
+        assert_eq!(called(nothing, record), ([2, 0, 0, 0, 0, 0], [0; 3]));
+        assert_eq!(called(sheet, nothing), ([5, 0, 0, 0, 0, 0], [0; 3]));
     }
 }

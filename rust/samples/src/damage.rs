@@ -1,8 +1,10 @@
-//! Faults, each aimed at one refusal. A name starts with the number that the fault alone would meet:
-//! 0 stands for a change that keeps the record acceptable. A change made to a part is followed by
-//! new pairs, so that it reaches the refusals behind the layout.
+//! Faults, each aimed at one refusal. A name starts with the number that the fault alone would meet,
+//! or with "accepted" or "within" for a change that no refusal meets. A change made to a part is
+//! followed by new pairs, so that it reaches the refusals behind the layout.
 
+mod alone;
 mod blind;
+mod close;
 mod forms;
 mod heads;
 mod independence;
@@ -14,6 +16,7 @@ mod resolutions;
 mod statements;
 
 use crate::draft::{code_bytes, codes, Body, Draft, Files, Table};
+use crate::outcome::Outcome;
 use crate::random::Random;
 use linear::order::Faults;
 use order::{Bound, Clauses};
@@ -47,19 +50,46 @@ const fn damage(aimed: &'static str, way: Way) -> Damage {
     Damage { aimed, way }
 }
 
+/// What a fault is to be answered with.
+#[derive(Clone, Copy, Debug, PartialEq, Eq)]
+pub enum Aim {
+    /// The record stays what it was: its claim, a cost or "none", is borne out.
+    Accepted,
+    /// The claim is a cost, and a gap is left.
+    Within,
+    /// With the refusal's number.
+    Refused(u32),
+}
+
+impl Aim {
+    pub fn is_met_by(self, outcome: Outcome) -> bool {
+        match self {
+            Aim::Accepted => outcome.accepts(),
+            Aim::Within => outcome == Outcome::Within,
+            Aim::Refused(number) => outcome == Outcome::Refused(number),
+        }
+    }
+}
+
 impl Damage {
-    /// The number that the fault is aimed at; a blind one is aimed at none.
-    pub fn number(&self) -> Option<u32> {
-        self.aimed.split(' ').next()?.parse().ok()
+    /// What the fault is aimed at; a blind one is aimed at nothing.
+    pub fn aim(&self) -> Option<Aim> {
+        match self.aimed.split(' ').next()? {
+            "accepted" => Some(Aim::Accepted),
+            "within" => Some(Aim::Within),
+            number => number.parse().ok().map(Aim::Refused),
+        }
     }
 }
 
 /// Every fault with an aim, in groups.
-pub const AIMED: [&[Damage]; 12] = [
+pub const AIMED: [&[Damage]; 14] = [
     heads::HEADS,
     pairs::PAIRS,
     forms::FORMS,
     plans::PLANS,
+    close::CLOSE,
+    alone::ALONE,
     statements::STATEMENTS,
     independence::INDEPENDENCE,
     order::ORDER,

@@ -5,6 +5,7 @@
 pub mod damage;
 pub mod draft;
 pub mod examples;
+pub mod outcome;
 pub mod random;
 pub mod sheets;
 pub mod weights;
@@ -15,14 +16,18 @@ use planner::padding::Mix;
 use planner::{format, long, search, tree, Plan, Problem};
 use random::Random;
 
-/// How many numbers an answer may have: 0 and those of the refusals.
+/// How many numbers an answer may have: 0 and those of the refusals. Three answers have 0: see [`outcome::Outcome`].
 pub const NUMBERS: usize = 25;
+
+/// What the samples say that nothing was done to.
+pub const VALID: &str = "accepted valid";
 
 #[derive(Clone, Debug, PartialEq, Eq)]
 pub struct Sample {
     pub sheet: Vec<u8>,
     pub record: Vec<u8>,
-    /// What was done; a leading number is the refusal that the fault alone would meet.
+    /// What was done. It begins with what that alone would meet: a refusal's number, "accepted" or "within"; but for
+    /// several faults at once, and for blind ones.
     pub aimed: &'static str,
 }
 
@@ -47,7 +52,7 @@ pub fn stream(seed: u64) -> impl Iterator<Item = Sample> {
     }
 }
 
-/// A valid sample whose record has about `size` bytes.
+/// An accepted sample whose record has about `size` bytes.
 pub fn long(seed: u64, size: usize, mix: Mix) -> Sample {
     let mut random = Random::new(seed);
     let problem = if matches!(mix, Mix::Long | Mix::LongOf(_)) {
@@ -60,7 +65,7 @@ pub fn long(seed: u64, size: usize, mix: Mix) -> Sample {
     Sample {
         sheet: format::sheet(&problem),
         record,
-        aimed: "0 long",
+        aimed: "accepted long",
     }
 }
 
@@ -73,7 +78,7 @@ pub fn long_with_weights(seed: u64, size: usize) -> Sample {
     let record = long::record(&problem, &plan, seed, size * 2 / 5, Mix::Mixed);
     let mut draft = drafted(&problem, &record);
     weights::steps::fill(&mut draft, size.saturating_sub(record.len()), &mut random);
-    Sample::new(draft.files(), "0 long with weights")
+    Sample::new(draft.files(), "accepted long with weights")
 }
 
 fn drafted(problem: &Problem, record: &[u8]) -> Draft {
@@ -100,7 +105,7 @@ impl Iterator for Stream {
             let base = self.new_base();
             let files = base.files();
             self.base = Some(base);
-            return Some(Sample::new(files, "0 valid"));
+            return Some(Sample::new(files, VALID));
         }
         self.left -= 1;
         let draft = self.base.take()?;

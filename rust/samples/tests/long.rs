@@ -47,7 +47,7 @@ fn long_records_are_accepted() {
             sample.record.len(),
             &kinds[1..]
         );
-        assert_eq!((answer.number, answer.place), (0, 0));
+        assert!(answer.accepts(), "{answer:?}");
         assert_eq!(answer.step_count, count as u64);
         assert!(sample.record.len() >= SIZE && sample.record.len() < SIZE + 1_000);
         match mix {
@@ -74,7 +74,8 @@ fn long_records_with_weights_are_accepted() {
         sample.record.len(),
         &kinds[1..]
     );
-    assert_eq!((answer.number, answer.step_count), (0, count as u64));
+    assert!(answer.accepts(), "{answer:?}");
+    assert_eq!(answer.step_count, count as u64);
     assert!(kinds[1..].iter().all(|of_kind| 50 * of_kind > count));
     assert!(sample.record.len() >= SIZE && sample.record.len() < SIZE + 2_000);
 }

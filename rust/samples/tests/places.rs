@@ -3,9 +3,9 @@
 mod common;
 
 use common::{first_difference, some_draft};
-use reference::Answer;
-use samples::damage::{self, Damage, Way};
+use samples::damage::{self, Aim, Damage, Way};
 use samples::draft::{codes, read_u32, Draft, Files, Table};
+use samples::outcome::Outcome;
 use samples::random::Random;
 use samples::weights::KIND;
 use std::collections::BTreeSet;
@@ -31,24 +31,24 @@ fn first_broken(draft: &Draft) -> u64 {
     broken.unwrap() as u64 + 1
 }
 
-/// Nothing is told before such a fault, and it is never without its number: it is made in a step that was good, by 14 or a
-/// number of document 02, or in a step of kind 5. Nor is anything told of a change that keeps the record acceptable.
+/// Nothing is told before such a fault, and it always meets its aim: it is made in a step that was good, by 14 or a number of
+/// document 02, or in a step of kind 5, or at the close. Nor is anything told of a change that leaves no fault behind.
 fn is_certain(fault: &Damage) -> bool {
-    let by_number = matches!(fault.number(), Some(0 | 14 | 20..=24));
-    by_number || matches!(fault.way, Way::Step(KIND, _) | Way::Weigh(_))
+    let by_aim = match fault.aim() {
+        Some(Aim::Refused(number)) => matches!(number, 14 | 19 | 20..=24),
+        unrefused => unrefused.is_some(),
+    };
+    by_aim || matches!(fault.way, Way::Step(KIND, _) | Way::Weigh(_))
 }
 
-/// The place that the papers give to a fault of this number; nothing where a fault has no one place.
-fn expected(
-    number: u32,
-    fault: &Damage,
-    before: &Draft,
-    after: &Draft,
-    files: &Files,
-) -> Option<u64> {
+/// The place that the papers give to what the fault is aimed at; nothing where a fault has no one place.
+fn expected(fault: &Damage, before: &Draft, after: &Draft, files: &Files) -> Option<u64> {
+    let Aim::Refused(number) = fault.aim()? else {
+        return Some(0);
+    };
     let changed_step = || Some(first_difference(&before.steps, &after.steps));
     match (number, fault.way) {
-        (0 | 2 | 5 | 6 | 11, _) => Some(0),
+        (2 | 5 | 6 | 11, _) => Some(0),
         (3, _) => Some(pair_at_fault(&files.sheet, files.sheet_table()?)),
         (7, _) => Some(pair_at_fault(&files.record, files.record_table()?)),
         (4, Way::ClauseList(_)) => Some(first_difference(&before.clauses, &after.clauses)),
@@ -70,15 +70,34 @@ fn changed(fault: Damage, draft: &Draft, random: &mut Random) -> Option<(Draft, 
 
 fn compare(fault: Damage, draft: &Draft, random: &mut Random) -> Option<u64> {
     let (after, files) = changed(fault, draft, random)?;
-    let answer: Answer = reference::judge(&files.sheet, &files.record);
-    let aimed = fault.number()?;
-    if answer.number != aimed {
+    let answer = reference::judge(&files.sheet, &files.record);
+    if !fault.aim()?.is_met_by(Outcome::of(&answer)) {
         assert!(!is_certain(&fault), "{}: {answer:?} {files:?}", fault.aimed);
         return None;
     }
-    let place = expected(aimed, &fault, draft, &after, &files)?;
+    let place = expected(&fault, draft, &after, &files)?;
     assert_eq!(answer.place, place, "{}: {files:?}", fault.aimed);
     Some(place)
+}
+
+/// In a record with a gap a fault is told as in one without.
+#[test]
+fn a_gap_hides_no_fault() {
+    let dearer = damage::all_aimed().find(|fault| fault.aimed == "within dearer by one");
+    let mut random = Random::new(13);
+    let mut compared = 0;
+    for _ in 0..60 {
+        let draft = some_draft(&mut random);
+        let (within, done) = damage::changed(&[*dearer.unwrap()], &draft, &mut random);
+        let faults = damage::all_aimed().filter(|fault| is_certain(fault));
+        for fault in faults.filter(|_| done) {
+            if let Some(Aim::Refused(_)) = fault.aim() {
+                compared += usize::from(compare(*fault, &within, &mut random).is_some());
+            }
+        }
+    }
+    println!("{compared} faults in records with a gap");
+    assert!(compared > 2_000);
 }
 
 #[test]

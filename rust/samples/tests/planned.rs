@@ -15,8 +15,10 @@ fn accepted(problem: &Problem, plan: &Plan) {
         cost: plan.claim,
         open_count: open,
         step_count: plan.steps.len() as u64,
+        gap: 0,
     };
     assert_eq!(answer, expected, "{problem:?}");
+    assert!(answer.accepts());
 }
 
 #[test]

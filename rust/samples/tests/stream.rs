@@ -1,9 +1,11 @@
-//! The stream meets every refusal, each fault meets the one that it is aimed at, and whatever is
-//! accepted is true.
+//! The stream meets every answer, each fault meets the one that it is aimed at, and whatever is
+//! accepted or called within is true.
 
-use reference::Answer;
+use reference::brute::{confirms, confirms_within, least_cost};
+use reference::{Answer, Verdict};
 use samples::draft::read_u32;
-use samples::{damage, stream, Sample, NUMBERS};
+use samples::outcome::{Outcome, Tally};
+use samples::{damage, stream, Sample, VALID};
 use std::collections::BTreeMap;
 
 const SEED: u64 = 1;
@@ -12,49 +14,91 @@ const SAMPLES: usize = 20_000;
 /// How many variables brute force may take on.
 const FEW: u16 = 16;
 
+/// Whether brute force was asked what it says of an answer that is no refusal.
 fn confirmed(sample: &Sample, answer: &Answer) -> bool {
-    let variables = u16::from_le_bytes([sample.sheet[0], sample.sheet[1]]);
-    if variables > FEW {
+    if answer.refuses() || u16::from_le_bytes([sample.sheet[0], sample.sheet[1]]) > FEW {
         return false;
     }
-    let confirms = reference::brute::confirms(&sample.sheet, &sample.record, answer);
-    assert!(confirms, "accepted but not true: {sample:?} {answer:?}");
+    let (sheet, record) = (&sample.sheet, &sample.record);
+    let is_true = if answer.accepts() {
+        confirms(sheet, record, answer)
+    } else {
+        confirms_within(sheet, record, answer)
+    };
+    assert!(is_true, "answered but not true: {sample:?} {answer:?}");
     true
 }
 
+/// How often an outcome is met at least, of 20,000 samples.
+fn enough(outcome: Outcome) -> usize {
+    match outcome {
+        Outcome::Least => 1_000,
+        Outcome::NoneExists => 150,
+        Outcome::Within => 250,
+        Outcome::Refused(_) => 5,
+    }
+}
+
 #[test]
-fn every_refusal_is_met_and_every_acceptance_is_true() {
-    let mut counts: BTreeMap<u32, usize> = BTreeMap::new();
-    let mut met: BTreeMap<(&str, u32), usize> = BTreeMap::new();
-    let mut checked = 0;
+fn every_answer_is_met_and_all_but_refusals_are_true() {
+    let (mut counts, mut checked) = (Tally::default(), Tally::default());
+    let mut met: BTreeMap<&str, Tally> = BTreeMap::new();
     for sample in stream(SEED).take(SAMPLES) {
         let answer = reference::judge(&sample.sheet, &sample.record);
-        *counts.entry(answer.number).or_default() += 1;
-        *met.entry((sample.aimed, answer.number)).or_default() += 1;
-        if answer.number == 0 {
-            checked += usize::from(confirmed(&sample, &answer));
+        let outcome = Outcome::of(&answer);
+        counts.add(outcome);
+        met.entry(sample.aimed).or_default().add(outcome);
+        if confirmed(&sample, &answer) {
+            checked.add(outcome);
         }
     }
-    println!("seed {SEED}, {SAMPLES} samples, by number: {counts:?}");
-    println!("{checked} acceptances confirmed by brute force");
-    for number in 2..NUMBERS as u32 {
-        assert!(
-            counts.get(&number).is_some_and(|count| *count >= 5),
-            "too few of {number}"
-        );
+    println!("seed {SEED}, {SAMPLES} samples: {counts}");
+    println!("confirmed by brute force: {checked}");
+    for outcome in Outcome::of_short_files() {
+        assert!(counts.of(outcome) >= enough(outcome), "few of {outcome}");
     }
-    assert!(checked > 500);
+    for outcome in [Outcome::Least, Outcome::NoneExists, Outcome::Within] {
+        assert!(2 * checked.of(outcome) >= enough(outcome), "{outcome}");
+    }
     aims_hold(&met);
 }
 
-/// Each fault was made, and met its number in most cases. `met` has how often a fault met a number.
-fn aims_hold(met: &BTreeMap<(&str, u32), usize>) {
+/// Each fault was made, and met its aim in most cases. `met` has what the faults met.
+fn aims_hold(met: &BTreeMap<&str, Tally>) {
     for fault in damage::all_aimed() {
-        let number = fault.number().expect("a name starts with its number");
-        let of = |number| met.get(&(fault.aimed, number)).copied().unwrap_or(0);
-        let made: usize = (0..NUMBERS as u32).map(of).sum();
-        println!("{}: {} of {made}", fault.aimed, of(number));
-        assert!(2 * of(number) > made, "not met: {}", fault.aimed);
+        let aim = fault.aim().expect("a name starts with what it is aimed at");
+        let tally = met.get(fault.aimed).expect("a fault that was made");
+        let aimed = Outcome::of_short_files().filter(|outcome| aim.is_met_by(*outcome));
+        let hits: usize = aimed.map(|outcome| tally.of(outcome)).sum();
+        println!("{}: {hits} of {}", fault.aimed, tally.sum());
+        assert!(2 * hits > tally.sum(), "not met: {}", fault.aimed);
+    }
+}
+
+/// Within says nothing about whether the claim is the least. So that nobody may take it for an answer to that, there are records
+/// of both sorts, and of both with a gap that is as small as can be and one that is as large.
+#[test]
+fn within_is_met_below_and_at_the_least_cost() {
+    let mut met: BTreeMap<(bool, &str), usize> = BTreeMap::new();
+    for sample in stream(8).take(SAMPLES) {
+        let answer = reference::judge(&sample.sheet, &sample.record);
+        if answer.verdict() != Verdict::Within || !confirmed(&sample, &answer) {
+            continue;
+        }
+        let least = least_cost(&sample.sheet).expect("the assignment is one");
+        let gap = match answer.gap {
+            1 => "one",
+            gap if gap == answer.cost => "all",
+            _ => "some",
+        };
+        *met.entry((answer.cost == least, gap)).or_default() += 1;
+    }
+    println!("by whether the claim is the least, and the gap: {met:?}");
+    for is_least in [false, true] {
+        for gap in ["one", "all", "some"] {
+            let count = met.get(&(is_least, gap)).copied().unwrap_or(0);
+            assert!(count >= 10, "{is_least} {gap}: {count}");
+        }
     }
 }
 
@@ -62,10 +106,10 @@ fn aims_hold(met: &BTreeMap<(&str, u32), usize>) {
 fn what_the_planner_wrote_is_accepted() {
     for sample in stream(2)
         .take(20_000)
-        .filter(|sample| sample.aimed == "0 valid")
+        .filter(|sample| sample.aimed == VALID)
     {
         let answer = reference::judge(&sample.sheet, &sample.record);
-        assert_eq!((answer.number, answer.place), (0, 0), "{sample:?}");
+        assert!(answer.accepts() && answer.place == 0, "{sample:?}");
     }
 }
 
@@ -85,19 +129,21 @@ fn refusals_of_the_sheet_are_those_of_invalid_sheets() {
             refused,
             "{sample:?}"
         );
-        if answer.number != 0 {
+        if answer.refuses() {
             let rest = (answer.cost, answer.open_count, answer.step_count);
-            assert_eq!(rest, (0, 0, 0));
+            assert_eq!((rest, answer.gap), ((0, 0, 0), 0));
         }
     }
 }
 
-/// In an accepted record a copy has its clause's literals, so that every step shows its own.
+/// In a record that is not refused a copy has its clause's literals, so that every step shows its own.
 #[test]
 fn shown_literals_are_those_of_the_step() {
-    for sample in stream(4).take(3_000) {
+    let mut within = 0;
+    for sample in stream(4).take(6_000) {
         let (sheet, record) = (&sample.sheet, &sample.record);
         let answer = reference::judge(sheet, record);
+        within += usize::from(answer.verdict() == Verdict::Within && answer.step_count > 1);
         for step in 1..=answer.step_count {
             let variables = usize::from(u16::from_le_bytes([sheet[0], sheet[1]]));
             let pair = 12 + variables.div_ceil(8) + 8 * (step as usize - 1);
@@ -110,4 +156,5 @@ fn shown_literals_are_those_of_the_step() {
             assert!(reference::show(sheet, record, step).is_empty());
         }
     }
+    assert!(within > 50, "{within}");
 }

@@ -202,9 +202,9 @@ fn steps_come_with_every_feature() {
     }
 }
 
-fn number_of(draft: &Draft) -> u32 {
+fn is_accepted(draft: &Draft) -> bool {
     let files = draft.files();
-    reference::judge(&files.sheet, &files.record).number
+    reference::judge(&files.sheet, &files.record).accepts()
 }
 
 #[test]
@@ -219,7 +219,7 @@ fn certificates_of_weights_are_accepted() {
             continue;
         };
         draft.steps = steps.iter().map(Body::bytes).collect();
-        assert_eq!(number_of(&draft), 0, "{draft:?}");
+        assert!(is_accepted(&draft), "{draft:?}");
         let rests = steps.iter().any(|step| step.kind == KIND);
         made += usize::from(rests);
         single += usize::from(rests && steps.len() == 1);
@@ -283,7 +283,8 @@ fn largest_sums_are_accepted() {
             // The reference checker looks every variable up in every clause, however long.
             if literals == 4 {
                 let answer = reference::judge(&sample.sheet, &sample.record);
-                assert_eq!((answer.number, answer.cost, answer.step_count), (0, 0, 2));
+                assert!(answer.accepts(), "{answer:?}");
+                assert_eq!((answer.cost, answer.step_count), (0, 2));
             }
         }
     }

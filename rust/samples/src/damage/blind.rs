@@ -57,6 +57,7 @@ pub const BLIND: &[Damage] = &[
         "blind bit in the assignment",
         Way::Draft(|draft, random| flip(&mut draft.assignment, random)),
     ),
+    damage("blind cheaper assignment", Way::Draft(cheaper)),
     damage("blind cost literal", Way::Step(2, literal_extra)),
     damage("blind cost literal left out", Way::Step(2, literal_missing)),
     damage("blind clause cited", Way::Step(3, one_more)),
@@ -141,6 +142,16 @@ fn splice(bytes: &mut Vec<u8>, random: &mut Random) -> Option<()> {
     let (from, to) = (range(bytes, random)?, range(bytes, random)?);
     let copy = bytes[from].to_vec();
     bytes.splice(to, copy);
+    Some(())
+}
+
+/// A variable that is paid for costs one less, and the claim follows: then the last bound, if it was the claim, is above it.
+fn cheaper(draft: &mut Draft, random: &mut Random) -> Option<()> {
+    let paid = (0..draft.variables()).filter(|place| draft.value(place + 1));
+    let paid: Vec<usize> = paid.filter(|place| draft.costs[*place] > 0).collect();
+    let place = *random.pick(&paid)?;
+    draft.costs[place] -= 1;
+    draft.claim = draft.assignment_cost();
     Some(())
 }
 

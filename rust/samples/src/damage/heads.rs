@@ -8,11 +8,11 @@ use planner::{MOST_CLAUSES, MOST_VARIABLES, NONE};
 
 pub const HEADS: &[Damage] = &[
     damage(
-        "0 most variables",
+        "accepted most variables",
         Way::Draft(|draft, _| resize_variables(draft, MOST_VARIABLES, 1)),
     ),
     damage(
-        "0 most clauses",
+        "accepted most clauses",
         Way::Draft(|draft, _| resize_clauses(draft, MOST_CLAUSES)),
     ),
     damage("2 sheet under four bytes", Way::Files(sheet_stub)),

@@ -1,4 +1,4 @@
-//! The claim, the assignment and the close; and changes that a record survives.
+//! The claim and the assignment; and changes that a record survives.
 
 use super::{damage, Damage, Way};
 use crate::draft::{assignment_length, Body, Draft};
@@ -7,31 +7,22 @@ use planner::{MOST_VARIABLES, NONE};
 
 pub const PLANS: &[Damage] = &[
     damage(
-        "0 variable that nothing mentions",
+        "accepted variable that nothing mentions",
         Way::Draft(|draft, _| spare_variable(draft, false)),
     ),
-    damage("0 clause repeated", Way::Draft(repeated_clause)),
-    damage("0 step repeated", Way::Draft(repeated_step)),
-    damage("0 cost step inserted", Way::Draft(inserted_cost)),
+    damage("accepted clause repeated", Way::Draft(repeated_clause)),
+    damage("accepted step repeated", Way::Draft(repeated_step)),
+    damage("accepted cost step inserted", Way::Draft(inserted_cost)),
     damage("10 bit flipped", Way::Draft(broken_by_a_bit)),
     damage("10 other assignment", Way::Draft(broken_assignment)),
     damage("10 clause added", Way::Draft(broken_clause_added)),
     damage("11 claim off by one", Way::Draft(claim_off_by_one)),
     damage("11 claim of another size", Way::Draft(claim_elsewhere)),
     damage("11 cost changed", Way::Draft(cost_changed)),
-    damage("19 last step left out", Way::Draft(last_left_out)),
-    damage("19 step after the close", Way::Draft(step_after)),
-    damage("19 weak step after the close", Way::Draft(weak_step_after)),
-    damage("19 dearer assignment", Way::Draft(dearer_assignment)),
-    damage(
-        "19 dearer by one",
-        Way::Draft(|draft, _| spare_variable(draft, true)),
-    ),
-    damage("19 none claimed", Way::Draft(none_claimed)),
 ];
 
-/// A variable of cost 1 outside every clause. Made true, it puts the claim one over the close.
-fn spare_variable(draft: &mut Draft, value: bool) -> Option<()> {
+/// A variable of cost 1 outside every clause. Made true, it puts the claim one above the last bound.
+pub fn spare_variable(draft: &mut Draft, value: bool) -> Option<()> {
     let variables = draft.variables() + 1;
     if variables > MOST_VARIABLES || (value && draft.claim == NONE) {
         return None;
@@ -84,7 +75,11 @@ fn broken_by_a_bit(draft: &mut Draft, random: &mut Random) -> Option<()> {
 }
 
 /// Draws assignments until one does what is wanted; the claim follows.
-fn redraw(draft: &mut Draft, random: &mut Random, wanted: fn(&Draft, u64) -> bool) -> Option<()> {
+pub fn redraw(
+    draft: &mut Draft,
+    random: &mut Random,
+    wanted: fn(&Draft, u64) -> bool,
+) -> Option<()> {
     let (least, before) = (draft.claim, draft.assignment.clone());
     for _ in 0..12 {
         for variable in 1..=draft.variables() {
@@ -149,45 +144,5 @@ fn cost_changed(draft: &mut Draft, random: &mut Random) -> Option<()> {
     let mut chosen = places.filter(|place| draft.value(place + 1));
     let place = chosen.next()?;
     draft.costs[place] = draft.costs[place].wrapping_add(1);
-    Some(())
-}
-
-fn last_left_out(draft: &mut Draft, _: &mut Random) -> Option<()> {
-    let before = draft.steps.len().checked_sub(2)?;
-    let unclosed = !Body::read(&draft.steps[before])?.literals.is_empty();
-    unclosed.then(|| draft.steps.truncate(before + 1))
-}
-
-fn step_after(draft: &mut Draft, random: &mut Random) -> Option<()> {
-    if random.percent(50) {
-        let step = random.pick(&draft.steps)?.clone();
-        let unclosed = !Body::read(&step)?.literals.is_empty();
-        return unclosed.then(|| draft.steps.push(step));
-    }
-    // Settles every variable as true: the bound is as large as one can be, but it does not close.
-    let all = (1..=draft.variables())
-        .map(|variable| 2 * variable as u16 + 1)
-        .collect();
-    draft.steps.push(Body::cost(draft, all).bytes());
-    Some(())
-}
-
-fn weak_step_after(draft: &mut Draft, _: &mut Random) -> Option<()> {
-    let weak = Body::cost(draft, Vec::new()).bytes();
-    (draft.claim > 0).then(|| draft.steps.push(weak))
-}
-
-fn dearer_assignment(draft: &mut Draft, random: &mut Random) -> Option<()> {
-    redraw(draft, random, |draft, least| {
-        draft.satisfied() && draft.assignment_cost() > least
-    })
-}
-
-fn none_claimed(draft: &mut Draft, _: &mut Random) -> Option<()> {
-    if draft.claim == NONE {
-        return None;
-    }
-    draft.claim = NONE;
-    draft.assignment.fill(0);
     Some(())
 }

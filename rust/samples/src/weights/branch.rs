@@ -118,7 +118,7 @@ pub fn resolution(premises: [(&Body, usize); 2], pivot: u16, resolvent: Vec<u16>
 }
 
 /// The copy of the clause at this place.
-fn copy(draft: &Draft, place: usize) -> Body {
+pub fn copy(draft: &Draft, place: usize) -> Body {
     Body {
         kind: 1,
         spare: 0,

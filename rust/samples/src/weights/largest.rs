@@ -18,7 +18,10 @@ fn below_zero(literals: usize) -> Sample {
     draft.flip(1);
     add(&mut draft, &every(1, MOST_VARIABLES), 1);
     add(&mut draft, &[], u16::MAX);
-    Sample::new(draft.files(), "0 largest weights of positive literals")
+    Sample::new(
+        draft.files(),
+        "accepted largest weights of positive literals",
+    )
 }
 
 /// Negative clauses over the dearest variables. The plan has none of them.
@@ -26,7 +29,10 @@ fn above_zero(literals: usize) -> Sample {
     let mut draft = sheet(u32::MAX, 1, literals);
     add(&mut draft, &every(1, MOST_VARIABLES), u16::MAX);
     add(&mut draft, &[], 1);
-    Sample::new(draft.files(), "0 largest weights of negative literals")
+    Sample::new(
+        draft.files(),
+        "accepted largest weights of negative literals",
+    )
 }
 
 /// The literals of the first variables: positive for 0, negative for 1.

@@ -51,9 +51,18 @@ pub fn some_step(draft: &Draft, random: &mut Random) -> Option<Body> {
 }
 
 /// A good step of these literals.
-fn step_of(draft: &Draft, literals: Vec<u16>, random: &mut Random) -> Option<Body> {
+pub fn step_of(draft: &Draft, literals: Vec<u16>, random: &mut Random) -> Option<Body> {
     let weights = some_weights(draft, &literals, random)?;
     weights.step(draft, literals)
+}
+
+/// A good step without literals whose weights dual ascent chose, so that its bound comes near the claim; nothing where no clause
+/// got a weight.
+pub fn closest(draft: &Draft, random: &mut Random) -> Option<Body> {
+    let divisor = some_divisor(random);
+    let entries = ascent::entries(draft, &[], divisor, random);
+    let weights = (!entries.is_empty()).then_some(Weights { divisor, entries })?;
+    weights.step(draft, Vec::new())
 }
 
 /// Two steps that hold a variable in either way, one of them with weights at least, and what they resolve to.

@@ -1,4 +1,4 @@
-//! Changes around steps of kind 5 that a record survives, some of them as large as can be; and one that it does not.
+//! Changes around steps of kind 5 that a record survives, some of them as large as can be.
 
 use super::reweigh;
 use crate::damage::heads::{resize_clauses, resize_variables};
@@ -10,13 +10,18 @@ use crate::weights::{branch, Weights, KIND};
 use planner::{MOST_CLAUSES, MOST_VARIABLES};
 
 pub const RECORDS: &[Damage] = &[
-    damage("0 weighted step inserted", Way::Draft(insert)),
-    damage("0 divisor and weights doubled", Way::Step(KIND, doubled)),
-    damage("0 weight split", Way::Draft(split)),
-    damage("0 weights alone", Way::Draft(weights_alone)),
-    damage("0 most clauses weighed", Way::Draft(most_clauses)),
-    damage("0 most variables settled", Way::Draft(most_variables)),
-    damage("19 weighted step after the close", Way::Draft(step_after)),
+    damage("accepted weighted step inserted", Way::Draft(insert)),
+    damage(
+        "accepted divisor and weights doubled",
+        Way::Step(KIND, doubled),
+    ),
+    damage("accepted weight split", Way::Draft(split)),
+    damage("accepted weights alone", Way::Draft(weights_alone)),
+    damage("accepted most clauses weighed", Way::Draft(most_clauses)),
+    damage(
+        "accepted most variables settled",
+        Way::Draft(most_variables),
+    ),
 ];
 
 /// Both sides of the division double.
@@ -102,11 +107,4 @@ fn put(
     let body = weights.step(draft, literals)?.bytes();
     draft.insert(random.below(draft.steps.len().max(1)), body);
     Some(())
-}
-
-/// A good step that closes nothing.
-fn step_after(draft: &mut Draft, random: &mut Random) -> Option<()> {
-    let body = some_step(draft, random)?;
-    let open = !body.literals.is_empty() || body.bound < draft.claim;
-    open.then(|| draft.steps.push(body.bytes()))
 }

@@ -1,0 +1,70 @@
+//! The theorems: as many of each outcome, and each with the answer that the reference checker gave.
+
+use agreement::{choose, module, tally, Case};
+use reference::{judge, show};
+use samples::examples::{example, Example};
+use samples::outcome::Outcome;
+
+fn case(name: &str) -> Case {
+    let Example { sheet, record, .. } = example(name);
+    let answer = judge(&sheet, &record);
+    let aimed = "an example";
+    Case {
+        sheet,
+        record,
+        answer,
+        aimed,
+    }
+}
+
+/// The answer in a module of one case.
+fn answer_of(name: &str) -> String {
+    let module = module(&[case(name)]);
+    let (_, rest) = module.split_once("answer = ").expect("an answer");
+    let (answer, _) = rest.split_once(" }").expect("its end");
+    answer.to_string()
+}
+
+#[test]
+fn answers_are_written_by_their_names() {
+    assert_eq!(answer_of("A1"), "accepted 3 1 5");
+    assert_eq!(answer_of("B2"), format!("accepted {} 0 1", u64::MAX));
+    assert_eq!(answer_of("A4"), "within 5 8 2 5");
+    assert_eq!(answer_of("S1"), "within 3 11 3 7");
+    assert_eq!(answer_of("C1"), "refused 19 1");
+}
+
+/// The head takes in what the theorems are written with.
+#[test]
+fn the_head_has_every_name() {
+    let module = module(&[]);
+    let (_, names) = module.split_once("Computed.{").expect("the names");
+    for name in ["accepted", "within", "refused", "right", "shows"] {
+        assert!(names.contains(name), "{name}");
+    }
+}
+
+/// Of the first case step 1 is shown: a copy, whose literals are those of the sheet's first clause.
+#[test]
+fn steps_are_shown_unless_the_record_is_refused() {
+    for (name, wanted) in [("A1", true), ("B2", true), ("A4", true), ("C1", false)] {
+        let module = module(&[case(name)]);
+        assert_eq!(module.contains("shown-1 : T (shows ("), wanted, "{name}");
+    }
+    let Case { sheet, record, .. } = case("A4");
+    assert_eq!(show(&sheet, &record, 1), &sheet[28..32]);
+    assert!(module(&[case("A4")]).contains(" 1 (bytesOf 4 0x000040002))"));
+}
+
+#[test]
+fn every_outcome_has_its_share() {
+    let share = 3;
+    let outcomes = Outcome::of_short_files().count();
+    let cases = choose(7, share * outcomes);
+    let tally = tally(&cases);
+    println!("{tally}");
+    for outcome in Outcome::of_short_files() {
+        assert_eq!(tally.of(outcome), share, "{outcome}");
+    }
+    assert_eq!(cases.len(), share * outcomes);
+}
