@@ -1,4 +1,4 @@
-//! Arguments of a command: files, an output, a flag.
+//! Arguments of a command: files, an output, a number of steps, flags.
 
 use crate::failure::Failure;
 use std::ffi::OsString;
@@ -9,6 +9,8 @@ pub struct Args {
     pub files: Vec<PathBuf>,
     /// What follows `-o`.
     pub output: Option<PathBuf>,
+    /// What follows `--steps`, 1 at least.
+    pub steps: Option<u64>,
     /// The flags that stand there, as they are written.
     pub flags: Vec<String>,
     pub help: bool,
@@ -22,14 +24,8 @@ impl Args {
         while let Some(argument) = rest.next() {
             match argument.to_str() {
                 Some("--help" | "-h") => args.help = true,
-                Some("-o") if known.contains(&"-o") => {
-                    let Some(output) = rest.next() else {
-                        return Err(Failure::Usage("-o needs a file".into()));
-                    };
-                    if args.output.replace(output.into()).is_some() {
-                        return Err(Failure::Usage("-o stands twice".into()));
-                    }
-                }
+                Some("-o") if known.contains(&"-o") => args.set_output(rest.next())?,
+                Some("--steps") if known.contains(&"--steps") => args.set_steps(rest.next())?,
                 Some(flag) if known.contains(&flag) => args.flags.push(flag.into()),
                 Some(flag) if flag.starts_with('-') && flag.len() > 1 => {
                     return Err(Failure::Usage(format!("unknown option {flag}")))
@@ -38,6 +34,31 @@ impl Args {
             }
         }
         Ok(args)
+    }
+
+    fn set_output(&mut self, output: Option<&OsString>) -> Result<(), Failure> {
+        let Some(output) = output else {
+            return Err(Failure::Usage("-o needs a file".into()));
+        };
+        match self.output.replace(output.into()) {
+            Some(_) => Err(Failure::Usage("-o stands twice".into())),
+            None => Ok(()),
+        }
+    }
+
+    fn set_steps(&mut self, steps: Option<&OsString>) -> Result<(), Failure> {
+        let Some(steps) = steps else {
+            return Err(Failure::Usage("--steps needs a number".into()));
+        };
+        let steps = steps.to_string_lossy();
+        let Some(number) = steps.parse().ok().filter(|number| *number > 0) else {
+            let wrong = format!("--steps takes a number from 1 on, not '{steps}'");
+            return Err(Failure::Usage(wrong));
+        };
+        match self.steps.replace(number) {
+            Some(_) => Err(Failure::Usage("--steps stands twice".into())),
+            None => Ok(()),
+        }
     }
 
     pub fn has(&self, flag: &str) -> bool {

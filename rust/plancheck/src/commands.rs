@@ -8,6 +8,7 @@ use crate::args::Args;
 use crate::failure::Failure;
 use crate::words::Fault;
 use crate::{files, help};
+use proved::Verdict;
 use std::ffi::OsString;
 use std::io::{self, BufWriter, Write};
 use std::path::Path;
@@ -28,7 +29,7 @@ const COMMANDS: [Command; 7] = [
     Command { name: "stats", help: help::STATS, known: &[], run: judging::counted },
     Command { name: "text", help: help::TEXT, known: &["--record", "-o"], run: texts::as_text },
     Command { name: "pack", help: help::PACK, known: &["-o"], run: texts::packed },
-    Command { name: "plan", help: help::PLAN, known: &["--tree", "--unweighted", "-o"], run: planning::planned },
+    Command { name: "plan", help: help::PLAN, known: &["--tree", "--unweighted", "--steps", "-o"], run: planning::planned },
     Command { name: "import", help: help::IMPORT, known: &["-o"], run: planning::imported },
 ];
 
@@ -85,8 +86,13 @@ fn both(args: &Args) -> Result<(Vec<u8>, Vec<u8>), Failure> {
     Ok((files::read(sheet)?, files::read(record)?))
 }
 
+/// A record within a gap is neither accepted nor refused, and has a code of its own.
 fn code(answer: &proved::Answer) -> u8 {
-    u8::from(!answer.accepts())
+    match answer.verdict() {
+        Verdict::Least | Verdict::NoneExists => 0,
+        Verdict::Refused => 1,
+        Verdict::Within => 3,
+    }
 }
 
 fn at_line(path: &Path, fault: &Fault) -> Failure {

@@ -5,7 +5,7 @@ use crate::record::{Record, ASSIGNMENT};
 use crate::refusals::sentence;
 use crate::sheet::Sheet;
 use crate::{dependence, text, weights};
-use proved::{Answer, NONE};
+use proved::{Answer, Verdict, NONE};
 
 /// The lines for the answer that the proved checker gave to these files.
 pub fn explain(sheet: &[u8], record: &[u8], answer: &Answer) -> Vec<String> {
@@ -29,7 +29,7 @@ fn shown(sheet_bytes: &[u8], record_bytes: &[u8], answer: &Answer) -> Vec<String
         return in_sheet(&sheet, sheet_bytes.len(), answer);
     }
     match Record::open(record_bytes, sheet.variables) {
-        Some(record) if answer.number == 0 => accepted(&sheet, &record, answer),
+        Some(record) if answer.verdict() != Verdict::Refused => unrefused(&sheet, &record, answer),
         Some(record) if answer.number < 8 => {
             in_record_head(&sheet, &record, record_bytes.len(), answer)
         }
@@ -38,12 +38,20 @@ fn shown(sheet_bytes: &[u8], record_bytes: &[u8], answer: &Answer) -> Vec<String
     }
 }
 
-fn accepted(sheet: &Sheet, record: &Record, answer: &Answer) -> Vec<String> {
+/// The claim and the last step: of an acceptance, and of a record within a gap, where the two do not meet.
+fn unrefused(sheet: &Sheet, record: &Record, answer: &Answer) -> Vec<String> {
     let mut lines = Vec::new();
     if answer.cost != NONE {
         lines.push(true_line(sheet, record));
     }
     let last = answer.step_count as usize;
+    if answer.verdict() == Verdict::Within {
+        let (cost, gap) = (answer.cost, answer.gap);
+        lines.push(format!(
+            "the last step's bound is {}: {gap} below the claim, {cost}",
+            cost - gap
+        ));
+    }
     lines.push(step_line(record, last));
     lines.extend(cited_lines(sheet, record, last));
     lines

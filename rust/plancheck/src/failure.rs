@@ -9,20 +9,23 @@ pub enum Failure {
     Unreadable(String),
     /// A file with content that the command cannot work on.
     Content(String),
+    /// A search that stopped with nothing to tell.
+    Unfinished(String),
 }
 
 impl Failure {
     pub fn message(&self) -> &str {
         match self {
-            Failure::Usage(message) | Failure::Unreadable(message) | Failure::Content(message) => {
-                message
-            }
+            Failure::Usage(message)
+            | Failure::Unreadable(message)
+            | Failure::Content(message)
+            | Failure::Unfinished(message) => message,
         }
     }
 
     pub fn exit_code(&self) -> u8 {
         match self {
-            Failure::Usage(_) | Failure::Unreadable(_) => 2,
+            Failure::Usage(_) | Failure::Unreadable(_) | Failure::Unfinished(_) => 2,
             Failure::Content(_) => 1,
         }
     }

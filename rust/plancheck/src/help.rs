@@ -10,17 +10,26 @@ plancheck: judges plans by the proved checker, and shows, writes, plans and impo
   plancheck text --record SHEET RECORD       the record as text
   plancheck pack TEXT -o FILE                from text back to bytes
   plancheck plan SHEET -o RECORD             plans the sheet
+  plancheck plan --steps N SHEET -o RECORD   plans it in N steps at most, and stops early if they do not suffice
   plancheck import FILE.wcnf -o SHEET        a sheet from the weighted DIMACS form
 
 plancheck COMMAND --help says more. docs/GUIDE.md is a first hour with all of them.
-Exit codes: 0 done or accepted, 1 refused, 2 wrong use or a file that cannot be read or written.
+Exit codes: 0 done or accepted, 1 refused, 2 wrong use or a file that cannot be read or written, 3 within a gap, which is
+neither accepted nor refused.
 ";
 
 pub const JUDGE: &str = "\
 plancheck judge SHEET RECORD
 
-Prints the proved checker's line: 'least C open O steps T', 'none open 0 steps T' or 'refused N at P'.
-Exit code 0 for least and none, 1 for a refusal, 2 for wrong use and files that cannot be read.
+Prints the proved checker's line, one of four:
+
+  least C open O steps T             accepted: C is the least cost
+  none open 0 steps T                accepted: no assignment satisfies every clause
+  within G cost C open O steps T     neither: the assignment satisfies every clause and costs C, and the least cost is C - G at
+                                     least; that C is the least is not shown
+  refused N at P                     refused, with number and place
+
+Exit code 0 for least and none, 1 for a refusal, 2 for wrong use and files that cannot be read, 3 for within.
 ";
 
 pub const EXPLAIN: &str = "\
@@ -39,9 +48,9 @@ its weight times (1 - its negative literals). If the divisor or a weight is 0, o
 pub const STATS: &str = "\
 plancheck stats SHEET RECORD
 
-Prints the proved checker's line, then counts: steps by kind, literals, clauses with weights, bytes, the depth of the last step's
-derivation, and how many earlier steps the last one rests on. Exit code 0 also for a refused record, 1 where the layout cannot be
-read.
+Prints the proved checker's line, then counts: steps by kind, literals, clauses with weights, bytes, the depth of the last
+step's derivation, and how many earlier steps the last one rests on. Exit code 0 whatever the line says, 1 where the layout
+cannot be read.
 ";
 
 pub const TEXT: &str = "\
@@ -73,11 +82,17 @@ What the file's fields can hold is written, right or wrong; 'plancheck judge' sa
 ";
 
 pub const PLAN: &str = "\
-plancheck plan [--tree | --unweighted] SHEET -o RECORD
+plancheck plan [--tree | --unweighted] [--steps N] SHEET -o RECORD
 
 Finds a least-cost assignment by branch and bound, writes the record, and prints what the proved checker says to it. This can
 take long on large sheets. --unweighted does without weighted steps. --tree tries every assignment instead, for 16 variables at
 most. Exit codes as with judge.
+
+--steps N writes N steps at most. Where the planner's proof has no more than that, the record is the one that it writes
+without --steps. Else it is the best assignment found, with as good a lower bound as N steps give, and the answer is 'within'
+unless that bound is the cost. The search for an assignment stops early too: after 10,000 conflicts, and one more for each
+step. Where it has found none, and the steps do not show that none exists, nothing is written and the exit code is 2. Not with
+--tree.
 ";
 
 pub const IMPORT: &str = "\

@@ -1,8 +1,7 @@
 //! The answers in plain words. The numbers and their meaning are those of docs/FORMATS.md.
 
-use crate::text::amount;
 use planner::{MOST_CLAUSES, MOST_VARIABLES};
-use proved::{Answer, NONE};
+use proved::{Answer, Verdict};
 
 /// What kind of thing a refusal's place is.
 #[derive(Clone, Copy, Debug, PartialEq, Eq)]
@@ -22,18 +21,24 @@ pub fn place_of(number: u64) -> Place {
 
 /// One sentence for the answer.
 pub fn sentence(answer: &Answer) -> String {
-    let place = answer.place;
-    match (answer.number, answer.cost) {
-        (0, NONE) => "Accepted: no assignment satisfies every clause.".to_string(),
-        (0, cost) => format!(
-            "Accepted: the record's assignment satisfies every clause and costs {}, and no assignment that satisfies every clause costs less.",
-            amount(cost)
+    let (place, cost) = (answer.place, answer.cost);
+    match (answer.verdict(), answer.number) {
+        (Verdict::NoneExists, _) => "Accepted: no assignment satisfies every clause.".to_string(),
+        (Verdict::Least, _) => format!(
+            "Accepted: the record's assignment satisfies every clause and costs {cost}, and no assignment that satisfies every clause costs less."
         ),
-        (1..=7, _) => about_layout(answer.number, place),
-        (8..=11, _) => about_claim(answer.number, place),
-        (12..=24, _) => about_step(answer.number, place),
-        (number, _) => format!("{number} is not the number of a refusal."),
+        (Verdict::Within, _) => within(cost, answer.gap),
+        (Verdict::Refused, 1..=7) => about_layout(answer.number, place),
+        (Verdict::Refused, 8..=11) => about_claim(answer.number, place),
+        (Verdict::Refused, 12..=24) => about_step(answer.number, place),
+        (Verdict::Refused, number) => format!("{number} is not the number of a refusal."),
     }
+}
+
+/// What is known, and what is not.
+fn within(cost: u64, gap: u64) -> String {
+    let least = cost - gap;
+    format!("Within {gap}, neither accepted nor refused: the record's assignment satisfies every clause and costs {cost}, and the least cost lies between {least} and {cost}. The record does not show that {cost} is the least.")
 }
 
 fn about_layout(number: u64, place: u64) -> String {
@@ -72,6 +77,6 @@ fn about_step(number: u64, place: u64) -> String {
         18 => format!("Lesser bound: the bound of step {place} is not the lesser of the two bounds that it cites."),
         23 => format!("Weights: step {place} divides by 0, or gives a clause the weight 0, where 1 is the least."),
         24 => format!("Linear bound: the bound of step {place} is not the least number that gives its total or more when it is multiplied by its divisor."),
-        _ => format!("Close: step {place} is the last and has to have no literals and a bound that is not below the claim."),
+        _ => format!("Close: step {place} is the last and still has literals, or the claim is none and its bound is not none."),
     }
 }

@@ -11,6 +11,7 @@ use plancheck::sheet::Sheet;
 use plancheck::steps;
 use planner::bounds::{cost_bound, independent_bound};
 use planner::{format, Literal, Problem, Reason, Step, NONE};
+use proved::Verdict;
 use samples::draft::Draft;
 use samples::stream;
 use std::collections::BTreeMap;
@@ -172,8 +173,10 @@ impl Case {
         draft.steps[self.place - 1] = format::step_body(&step);
         let files = draft.files();
         let answer = judged(&files.sheet, &files.record);
-        // The close is told at the last step once every step has passed.
-        answer.number == 0 || answer.number == 19 || answer.place > self.place as u64
+        // The close is told once every step has passed, and a gap as well: no acceptance is asked for here.
+        answer.verdict() != Verdict::Refused
+            || answer.number == 19
+            || answer.place > self.place as u64
     }
 
     /// The step after what a line says has been done to it.

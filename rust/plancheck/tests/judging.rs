@@ -15,7 +15,12 @@ fn examples_give_their_lines_and_exit_codes() {
     for example in examples() {
         let path = |name| example.folder.join(name).display().to_string();
         let (files, line) = (["sheet", "record"].map(path), example.line);
-        let wanted = i32::from(line.starts_with("refused"));
+        let wanted = match line.split(' ').next().unwrap() {
+            "least" | "none" => 0,
+            "refused" => 1,
+            "within" => 3,
+            other => panic!("{other} is no answer"),
+        };
         let judged = folder.run(&["judge", &files[0], &files[1]]);
         assert_eq!((printed(&judged), code(&judged)), (line.clone(), wanted));
         let explained = folder.run(&["explain", &files[0], &files[1]]);

@@ -27,7 +27,7 @@ fn every_command_has_help() {
 fn wrong_use_shows_help_and_exits_with_2() {
     let folder = Folder::new("usage");
     folder.write("a", "sheet\ncost 1 1\n");
-    let calls: [&[&str]; 16] = [
+    let calls: [&[&str]; 24] = [
         &[],
         &["guess"],
         &["judge"],
@@ -44,6 +44,14 @@ fn wrong_use_shows_help_and_exits_with_2() {
         &["pack", "a", "-o"],
         &["plan", "a"],
         &["import", "a", "-o", "b", "-o", "c"],
+        &["plan", "a", "-o", "b", "--steps"],
+        &["plan", "--steps", "0", "a", "-o", "b"],
+        &["plan", "--steps", "-1", "a", "-o", "b"],
+        &["plan", "--steps", "1.5", "a", "-o", "b"],
+        &["plan", "--steps", "few", "a", "-o", "b"],
+        &["plan", "--steps", "3", "--steps", "3", "a", "-o", "b"],
+        &["plan", "--steps", "3", "--tree", "a", "-o", "b"],
+        &["judge", "--steps", "3", "a", "a"],
     ];
     for call in calls {
         let wrong = folder.run(call);
@@ -51,6 +59,7 @@ fn wrong_use_shows_help_and_exits_with_2() {
         assert!(complained(&wrong).contains("plancheck "), "{call:?}");
         assert!(complained(&wrong).contains(" SHEET") || complained(&wrong).contains(" TEXT"));
         assert_eq!(printed(&wrong), "");
+        assert!(!folder.0.join("b").exists(), "{call:?}");
     }
 }
 

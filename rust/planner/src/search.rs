@@ -2,6 +2,7 @@
 //! a bound that was good enough for a dearer best assignment stays good enough for a cheaper one,
 //! so that one pass finds the optimum and its certificate.
 
+mod early;
 mod lower;
 mod propagation;
 mod trail;
@@ -10,6 +11,7 @@ mod weights;
 use crate::certificate::Certificate;
 use crate::problem::{Literal, Problem, NONE};
 use crate::Plan;
+pub use early::plan_in;
 use lower::{outlook, Explanation, Outlook};
 use propagation::Store;
 use trail::Trail;
@@ -38,6 +40,8 @@ struct Search<'a> {
     certificate: Certificate<'a>,
     store: Store,
     trail: Trail,
+    /// A clause that is broken before anything is decided.
+    broken: Option<u32>,
     /// How much each variable took part in late conflicts: it guides the decisions.
     activity: Vec<f64>,
     bump: f64,
@@ -61,21 +65,9 @@ pub fn plan_within(problem: &Problem, conflicts: u64) -> Option<Plan> {
 /// As `plan_within`, with the bounds that are wanted; also tells how much work it was.
 pub fn plan_by(problem: &Problem, bounds: Bounds, conflicts: u64) -> (Option<Plan>, Effort) {
     let mut search = Search::new(problem, bounds);
-    let mut conflict = search.set_units();
-    while search.effort.conflicts < conflicts {
-        search.effort.conflicts += 1;
-        let step = match conflict.take() {
-            Some(step) => step,
-            None => search.descend(),
-        };
-        let learned = search.analyze(step);
-        if search.certificate.step(learned).literals.is_empty() {
-            let effort = search.effort;
-            return (Some(search.finish(learned)), effort);
-        }
-        search.learn(learned);
-    }
-    (None, search.effort)
+    let last = search.run(conflicts);
+    let effort = search.effort;
+    (last.map(|last| search.finish(last)), effort)
 }
 
 impl<'a> Search<'a> {
@@ -88,18 +80,38 @@ impl<'a> Search<'a> {
         // Dear variables are decided first: false is their cheap value, and what that forces shows.
         let dearest = problem.costs.iter().copied().max().unwrap_or(0).max(1);
         let weight = |cost: &u32| f64::from(*cost) / f64::from(dearest);
-        Search {
+        let mut search = Search {
             problem,
             certificate: Certificate::new(problem),
             store,
             trail: Trail::new(variables),
+            broken: None,
             activity: problem.costs.iter().map(weight).collect(),
             bump: 1.0,
             best: NONE,
             assignment: vec![false; variables],
             ascent: (bounds == Bounds::Weights).then(|| Ascent::new(problem)),
             effort: Effort::default(),
+        };
+        search.broken = search.set_units();
+        search
+    }
+
+    /// Goes on until there have been so many conflicts, from the first on; gives the empty cost clause once it is learned.
+    fn run(&mut self, conflicts: u64) -> Option<u32> {
+        while self.effort.conflicts < conflicts {
+            self.effort.conflicts += 1;
+            let step = match self.broken.take() {
+                Some(step) => step,
+                None => self.descend(),
+            };
+            let learned = self.analyze(step);
+            if self.certificate.step(learned).literals.is_empty() {
+                return Some(learned);
+            }
+            self.learn(learned);
         }
+        None
     }
 
     /// Sets the clauses of one literal; a broken one, an empty one included, is a conflict.

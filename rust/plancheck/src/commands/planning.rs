@@ -7,6 +7,7 @@ use crate::{files, import};
 use planner::search::{self, Bounds};
 use planner::{format, tree, Plan, Problem};
 use std::io::Write;
+use std::path::Path;
 
 /// How many variables every assignment may be tried for.
 const FEW: usize = 16;
@@ -14,31 +15,48 @@ const FEW: usize = 16;
 pub(super) fn planned(args: &Args, out: &mut dyn Write) -> Outcome {
     let [path] = args.files()?;
     let output = args.needed_output()?;
+    if args.has("--tree") && args.steps.is_some() {
+        let both = "--tree goes to the end, and --steps stops early: take one of them";
+        return Err(Failure::Usage(both.into()));
+    }
     let bytes = files::read(path)?;
     let sheet = files::valid_sheet(path, &bytes)?;
     let unread = || Failure::Content(format!("{}: byte 0: no problem here", path.display()));
     let problem = sheet.problem().ok_or_else(unread)?;
-    let by_tree = args.has("--tree");
-    if by_tree && problem.variables() > FEW {
-        let most = format!("{}: --tree takes {FEW} variables at most", path.display());
-        return Err(Failure::Content(most));
-    }
-    let plan = match (by_tree, args.has("--unweighted")) {
-        (true, _) => tree::plan,
-        (false, true) => unweighted,
-        (false, false) => search::plan,
-    };
-    let record = plan(&problem).record();
+    let record = plan(args, path, &problem)?.record();
     files::write(output, &record)?;
     let answer = proved::judge(&bytes, &record);
     print(out, &format!("{}\n", answer.line()))?;
     Ok(code(&answer))
 }
 
-/// A plan by branch and bound, without weighted steps.
-fn unweighted(problem: &Problem) -> Plan {
-    let (plan, _) = search::plan_by(problem, Bounds::Independent, u64::MAX);
-    plan.expect("no limit was set")
+/// A plan in the way that is asked for.
+fn plan(args: &Args, path: &Path, problem: &Problem) -> Result<Plan, Failure> {
+    if args.has("--tree") {
+        return by_tree(path, problem);
+    }
+    let bounds = match args.has("--unweighted") {
+        true => Bounds::Independent,
+        false => Bounds::Weights,
+    };
+    let Some(steps) = args.steps else {
+        let (plan, _) = search::plan_by(problem, bounds, u64::MAX);
+        return Ok(plan.expect("no limit was set"));
+    };
+    search::plan_in(problem, bounds, steps).ok_or_else(|| {
+        Failure::Unfinished(format!(
+            "{}: no assignment was found, and {steps} steps do not show that none exists: nothing is written",
+            path.display()
+        ))
+    })
+}
+
+fn by_tree(path: &Path, problem: &Problem) -> Result<Plan, Failure> {
+    if problem.variables() > FEW {
+        let most = format!("{}: --tree takes {FEW} variables at most", path.display());
+        return Err(Failure::Content(most));
+    }
+    Ok(tree::plan(problem))
 }
 
 pub(super) fn imported(args: &Args, out: &mut dyn Write) -> Outcome {

@@ -63,5 +63,6 @@ pub fn judged(sheet: &[u8], record: &[u8]) -> proved::Answer {
         cost: answer.cost,
         open_count: answer.open_count,
         step_count: answer.step_count,
+        gap: answer.gap,
     }
 }

@@ -57,6 +57,15 @@ pub fn outlook(problem: &Problem, trail: &Trail, target: u64) -> Outlook {
     Outlook::Hopeless(Explanation::Independent { literals, clauses })
 }
 
+/// Independent clauses where the trail is, as many as the greedy choice finds, and the bound that they give.
+pub fn independent_clauses(problem: &Problem, trail: &Trail) -> (Vec<u32>, u64) {
+    let (candidates, _) = candidates(problem, trail);
+    let chosen = independent(problem.variables(), candidates);
+    let bound = paid(problem, trail) + chosen.iter().map(|candidate| candidate.least).sum::<u64>();
+    let clauses = chosen.iter().map(|candidate| candidate.number).collect();
+    (clauses, bound)
+}
+
 /// What the true variables cost.
 pub fn paid(problem: &Problem, trail: &Trail) -> u64 {
     true_variables(trail)

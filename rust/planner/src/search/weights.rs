@@ -3,7 +3,7 @@
 
 use super::lower::paid;
 use super::trail::Trail;
-use crate::bounds::{linear_total, remainders};
+use crate::bounds::{linear_bound, linear_total, remainders};
 use crate::problem::{Literal, Problem};
 
 /// The greatest weight that a record can hold.
@@ -14,6 +14,9 @@ const FINEST: i64 = 1024;
 
 /// How many steps along the subgradient a node may take.
 const ROUNDS: usize = 30;
+
+/// How many it may take where its weights are the first, and are what later nodes begin with.
+const FIRST_ROUNDS: usize = 300;
 
 /// After how many of them a node is given up that is not within an eighth of what it needs.
 const TRIAL: usize = 8;
@@ -79,11 +82,45 @@ impl<'a> Ascent<'a> {
             return None;
         }
         self.gather(trail);
-        if !self.climb(needed) {
+        if !self.climb(needed, ROUNDS, TRIAL, |_| ()) {
             return None;
         }
         self.drop_idle();
         Some(self.explained(trail, target))
+    }
+
+    /// The best weights on the way up to `target`, whether it is reached or not, behind their divisor.
+    pub fn best(&mut self, trail: &Trail, target: u64) -> Option<(u16, Vec<(u32, u16)>)> {
+        let missing = i64::try_from(target.checked_sub(paid(self.problem, trail))?).ok()?;
+        let needed = self.divisor.checked_mul(missing)?;
+        let rounds = match trail.level() {
+            0 => FIRST_ROUNDS,
+            _ => ROUNDS,
+        };
+        self.gather(trail);
+        let mut best = Vec::new();
+        self.climb(needed, rounds, rounds, |weights| best = weights.to_vec());
+        self.weights = best;
+        // The remainders of these weights are not those of the last.
+        self.value();
+        self.drop_idle();
+        self.coarsest(trail)
+    }
+
+    /// The weights over the least divisor, 1 or another power of 2 or that in use, that gives no less than the others.
+    fn coarsest(&self, trail: &Trail) -> Option<(u16, Vec<(u32, u16)>)> {
+        let literals: Vec<Literal> = trail.order().iter().map(|held| held.negated()).collect();
+        let powers = (0..).map(|power| 1 << power);
+        let coarser = powers.take_while(|divisor| *divisor < self.divisor);
+        let (mut best, mut reached) = (None, None);
+        for divisor in coarser.chain([self.divisor]) {
+            let (weights, divisor) = (self.over(divisor), divisor as u16);
+            let bound = linear_bound(self.problem, &literals, divisor, &weights);
+            if !weights.is_empty() && reached.is_none_or(|other| bound > other) {
+                (best, reached) = (Some((divisor, weights)), Some(bound));
+            }
+        }
+        best
     }
 
     /// Finds the clauses that the trail has not satisfied.
@@ -116,13 +153,23 @@ impl<'a> Ascent<'a> {
         self.variables.dedup();
     }
 
-    /// Goes up until the value is what is needed; false where that seems out of reach.
-    fn climb(&mut self, needed: i64) -> bool {
+    /// Goes up until the value is what is needed; false after so many rounds, or where after a trial that seems out of reach.
+    /// Hands on the weights whenever they are better than all before.
+    fn climb(
+        &mut self,
+        needed: i64,
+        rounds: usize,
+        trial: usize,
+        mut better: impl FnMut(&[i64]),
+    ) -> bool {
         // Steps are as long as a line to the goal would need. One that is aimed a little too high gets there sooner.
         let goal = needed + needed / 16;
         let (mut best, mut stale, mut halved) = (i64::MIN, 0, 0);
-        for round in 0..ROUNDS {
+        for round in 0..rounds {
             let value = self.value();
+            if value > best {
+                better(&self.weights);
+            }
             if value >= needed {
                 return true;
             }
@@ -132,7 +179,7 @@ impl<'a> Ascent<'a> {
                 (stale, halved) = (0, halved + 1);
             }
             let norm = self.slopes();
-            if norm == 0 || (round == TRIAL && best < needed - needed / 8) {
+            if norm == 0 || (round == trial && best < needed - needed / 8) {
                 return false;
             }
             self.advance((((goal - value) / norm) >> halved).max(1));

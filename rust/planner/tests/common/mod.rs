@@ -36,6 +36,7 @@ fn clause(shape: &Shape, random: &mut Random) -> Vec<Literal> {
     literals
 }
 
+/// Least or none: a record within a gap is not accepted.
 pub fn accepted(problem: &Problem, record: &[u8]) -> bool {
-    reference::judge(&format::sheet(problem), record).number == 0
+    reference::judge(&format::sheet(problem), record).accepts()
 }
