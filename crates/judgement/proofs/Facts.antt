@@ -1,4 +1,4 @@
--- Facts and tests agree: accepted exactly when.
+-- Facts and tests agree: accepted exactly when, within exactly when, and how a record closes.
 pub mod Layouts
 pub mod FirstByte
 pub mod Copy

@@ -13,10 +13,10 @@ use Rattle.judgement.specs.Meaning.{Assignment, cost, Model, Least, Unsa
 use Rattle.judgement.specs.Sheet.{variables, problemOf}
 use Rattle.judgement.specs.Record.{assigned, assignmentSize}
 use Rattle.judgement.specs.Writer.{assignmentOf, recordOf}
-use Rattle.judgement.specs.Facts.{ValidSheet, Acceptable}
+use Rattle.judgement.specs.Facts.{ValidSheet}
 use Rattle.judgement.specs.Judgement.{judgement, saysLeast, saysWithin, accepts}
 use Rattle.judgement.specs.Demands.{IsBytes, Sound, SoundWithin, SomeSteps, Complete}
-use Rattle.judgement.proofs.Laws.Answers.{accepts-passes, least-accepts, accepts-least, within-passes}
+use Rattle.judgement.proofs.Laws.Answers.{least-accepts, within-passes}
 use Rattle.judgement.proofs.Facts.Accepted.{exactly-when, passes-before}
 use Rattle.judgement.proofs.Order.Shape.{shape}
 use Rattle.judgement.proofs.Laws.Cost.{cost-below-none}
@@ -76,16 +76,6 @@ module _ (s : List ℕ) (bytes : IsBytes s) (valid : ValidSheet s) (few : variab
       let low = least .below α m in
       omega (arith, claim-is, e, high, low)
 
-  -- a record that is accepted with a cost for its claim is least
-  says-least : (c : ℕ) (bits : List ℕ) (bodies : List (List ℕ)) → c < none → Acceptable s (recordOf c bits bodies)
-      → saysLeast (judgement s (recordOf c bits bodies)) ≡ true
-  says-least c bits bodies small facts =
-      let r : List ℕ = recordOf c bits bodies in
-      let ok = exactly-when s r .accepted .1 facts in
-      let cost-is = shape s r .passed (accepts-passes (judgement s r) ok) .1 in
-      let claim-is = record-claim c bits bodies (omega (arith, small)) in
-      accepts-least (judgement s r) ok (λ e. omega (arith, small, cost-is, claim-is, e))
-
   -- the least, so the decision tree's steps close
   of-least : (α : Assignment) → Model (problemOf s) α → (L : ℕ) → Least (problemOf s) L → cost (problemOf s) α ≡ L
       → SomeSteps saysLeast judgement s (cost (problemOf s) α) (assignmentOf (variables s) α)
@@ -95,16 +85,19 @@ module _ (s : List ℕ) (bytes : IsBytes s) (valid : ValidSheet s) (few : variab
       let small = cost-below-none s bytes (valid .n .1) α in
       let c-small : c ≤ none = omega (arith, small) in
       let agree = stored-agrees c (variables s) α (bodiesOf ts) in
+      let claim-is = record-claim c (assignmentOf (variables s) α) (bodiesOf ts) c-small in
       let floor = reaches c c-small (λ β mb. let h = least .below β mb in omega (arith, h, e)) in (
         bodiesOf ts,
         written-bytes c (assignmentOf (variables s) α) ts (packed-bytes (variables s) α),
-        says-least c (assignmentOf (variables s) α) (bodiesOf ts) small
-            (written-acceptable s valid few ts derivation c c-small (assignmentOf (variables s) α) (packed-length (variables s) α)
-            (stored-spare c (variables s) α (bodiesOf ts))
-            (λ z. absurd (omega (arith, small, z)))
-            (λ some. model-local s valid α (assigned (recordOf c (assignmentOf (variables s) α) (bodiesOf ts))) agree m)
-            (λ some. sym (cost-local s valid α (assigned (recordOf c (assignmentOf (variables s) α) (bodiesOf ts))) agree))
-            floor),
+        exactly-when s (recordOf c (assignmentOf (variables s) α) (bodiesOf ts)) .least .1 (
+          written-acceptable s valid few ts derivation c c-small (assignmentOf (variables s) α) (packed-length (variables s) α)
+              (stored-spare c (variables s) α (bodiesOf ts))
+              (λ z. absurd (omega (arith, small, z)))
+              (λ some. model-local s valid α (assigned (recordOf c (assignmentOf (variables s) α) (bodiesOf ts))) agree m)
+              (λ some. sym (cost-local s valid α (assigned (recordOf c (assignmentOf (variables s) α) (bodiesOf ts))) agree))
+              floor,
+          λ z. omega (arith, small, claim-is, z),
+        ),
       )
 
   -- ---- "none"

@@ -83,7 +83,8 @@ fn times(size: &str, rounds: &str, sets: &[&str]) -> Option<()> {
     Some(())
 }
 
-/// A sample of a set. A record that is refused, or closes with a gap, would not be the work that is measured.
+/// A sample of a set. Only accepted records are measured: one that is refused ends early, and one within a gap is not what the
+/// sets promise.
 fn sample(size: usize, mix: Mix) -> Sample {
     let sample = samples::long(SEED, size, mix);
     let answer = proved::judge(&sample.sheet, &sample.record);

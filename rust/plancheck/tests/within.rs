@@ -96,7 +96,7 @@ fn codes(folder: &Folder) -> [i32; 3] {
 }
 
 #[test]
-fn each_answer_has_an_exit_code_of_its_own() {
+fn acceptance_refusal_and_within_have_exit_codes_of_their_own() {
     let folder = Folder::new("codes");
     for (name, wanted) in [("A1", 0), ("B2", 0), ("A2", 1), ("C1", 1), ("A4", 3)] {
         let Example { sheet, record, .. } = example(name);

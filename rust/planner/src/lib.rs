@@ -1,5 +1,5 @@
 //! Plans: a least-cost assignment for a sheet, and the certificate that nothing cheaper exists; or, where a search stops
-//! early, a good assignment, and a lower bound on the cost of every other.
+//! early, a good assignment, and a lower bound on what any assignment costs that satisfies every clause.
 #![forbid(unsafe_code)]
 
 pub mod bounds;
@@ -15,8 +15,8 @@ pub mod tree;
 pub use certificate::{Certificate, Reason, Step};
 pub use problem::{Literal, Problem, MOST_CLAUSES, MOST_VARIABLES, NONE};
 
-/// A claim with what bears it out, or, of a search that stopped early, what comes near it: then the last step's bound is below
-/// the claim. Where the claim is "none", every value is false.
+/// A claim with what bears it out, or, of a search that stopped early, what comes near it: then the last step's bound may be
+/// below the claim. Where the claim is "none", every value is false.
 #[derive(Clone, Debug, PartialEq, Eq)]
 pub struct Plan {
     pub claim: u64,

@@ -102,7 +102,7 @@ fn every_number_of_steps_is_kept_and_the_gap_never_grows() {
     assert!(met.iter().all(|count| *count > 50), "{met:?}");
 }
 
-/// The gaps for some numbers of steps, of independent clauses alone and with weights.
+/// The gaps for some numbers of steps, with these bounds.
 fn gaps(problem: &Problem, bounds: Bounds, steps: &[u64]) -> Vec<u64> {
     let gaps = steps
         .iter()
@@ -134,7 +134,7 @@ fn a_few_steps_come_near_and_more_come_nearer() {
 /// The bound of one step is what the sheet's clauses give without any decision.
 #[test]
 fn one_step_is_the_bound_at_the_root() {
-    // Any two of three variables are a clause: one clause costs 2, and weights add up to 4 and a half.
+    // Any two of three variables are a clause: one clause gives 3, and weights add up to 4 and a half.
     let problem = sheet_of(&[4, 3, 2], &[&[1, 2], &[2, 3], &[1, 3]]);
     let answer = |bounds, steps| judged_in(&problem, bounds, steps).unwrap();
     let plain = answer(Bounds::Independent, 1);

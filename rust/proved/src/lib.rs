@@ -27,7 +27,8 @@ pub enum Verdict {
     Least,
     /// No assignment satisfies every clause.
     NoneExists,
-    /// The assignment satisfies every clause at the claimed cost, and no assignment that does costs less than this minus the gap.
+    /// The assignment satisfies every clause at the claimed cost, and no assignment that satisfies every clause costs less than
+    /// that cost minus the gap. It is no acceptance.
     Within,
     /// One of the numbered refusals.
     Refused,

@@ -35,7 +35,7 @@ pub enum Verdict {
 }
 
 impl Answer {
-    /// Which kind of answer this is. Every reading of the fields goes through here.
+    /// Which kind of answer this is. Nothing else tells an acceptance from a gap.
     pub fn verdict(&self) -> Verdict {
         if self.number != 0 {
             Verdict::Refused

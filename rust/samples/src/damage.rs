@@ -1,4 +1,4 @@
-//! Faults, each aimed at one refusal. A name starts with the number that the fault alone would meet,
+//! Changes, each aimed at one answer. A name starts with the number that the fault alone would meet,
 //! or with "accepted" or "within" for a change that no refusal meets. A change made to a part is
 //! followed by new pairs, so that it reaches the refusals behind the layout.
 

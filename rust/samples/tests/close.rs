@@ -60,17 +60,19 @@ fn with(fault: Damage, draft: &Draft, random: &mut Random) -> Option<Draft> {
     done.then_some(after)
 }
 
-/// What the names say of the record and its gap.
-type Said = fn(&Draft, u64) -> bool;
+/// What the names say of the record before, of it after, and of its gap.
+type Said = fn(&Draft, &Draft, u64) -> bool;
 
 const SAID: [(&str, Said); 8] = [
-    ("within dearer by one", |_, gap| gap == 1),
-    ("within a gap over 32 bits", |_, gap| gap > 1 << 32),
-    ("within cost step after the close", |draft, gap| {
-        gap == draft.claim && draft.steps.len() > 1
+    ("within dearer by one", |_, _, gap| gap == 1),
+    ("within a gap over 32 bits", |_, _, gap| gap > 1 << 32),
+    ("within cost step after the close", |_, after, gap| {
+        gap == after.claim && after.steps.len() > 1
     }),
-    ("within record cut short", |draft, gap| gap <= draft.claim),
-    ("within cost step alone", |draft, gap| gap == draft.claim),
+    ("within record cut short", |before, after, _| {
+        after.steps.len() < before.steps.len()
+    }),
+    ("within cost step alone", |_, after, gap| gap == after.claim),
     ("within cost step alone, one below the claim", one_of_one),
     (
         "within independent set alone, one below the claim",
@@ -82,8 +84,8 @@ const SAID: [(&str, Said); 8] = [
     ),
 ];
 
-fn one_of_one(draft: &Draft, gap: u64) -> bool {
-    gap == 1 && draft.steps.len() == 1
+fn one_of_one(_: &Draft, after: &Draft, gap: u64) -> bool {
+    gap == 1 && after.steps.len() == 1
 }
 
 #[test]
@@ -101,7 +103,10 @@ fn the_gap_is_the_claim_minus_the_last_bound() {
             assert_eq!(judged(&after), with_gap(&after, gap), "{}", fault.aimed);
             assert!(gap > 0 && after.claim != NONE, "{}", fault.aimed);
             let said = SAID.iter().find(|(name, _)| *name == fault.aimed);
-            assert!(said.is_none_or(|(_, said)| said(&after, gap)), "{after:?}");
+            assert!(
+                said.is_none_or(|(_, said)| said(&draft, &after, gap)),
+                "{after:?}"
+            );
             *met.entry(fault.aimed).or_default() += 1;
         }
     }

@@ -78,7 +78,7 @@ fn aims_hold(met: &BTreeMap<&str, Tally>) {
 /// Within says nothing about whether the claim is the least. So that nobody may take it for an answer to that, there are records
 /// of both sorts, and of both with a gap that is as small as can be and one that is as large.
 #[test]
-fn within_is_met_below_and_at_the_least_cost() {
+fn within_is_met_above_and_at_the_least_cost() {
     let mut met: BTreeMap<(bool, &str), usize> = BTreeMap::new();
     for sample in stream(8).take(SAMPLES) {
         let answer = reference::judge(&sample.sheet, &sample.record);

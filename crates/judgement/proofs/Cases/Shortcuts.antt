@@ -1,6 +1,7 @@
--- Cheap checkers that the demands shut out: one that refuses all, one that accepts all, one that accepts nothing but one pair
--- of files, one whose acceptances are all the same answer, and one that accepts "none" unread. (One that trusts steps after the
--- first, and one that invents a count, are must-fail edits.)
+-- Cheap checkers that the demands shut out: one that never accepts, so one that refuses all or answers "within" to all; one that
+-- says "least" of every cost, or accepts all; one that accepts nothing but one pair of files; one whose acceptances are all the same
+-- answer; and one that accepts "none" unread. (One that trusts steps after the first, and one that invents a count, are must-fail
+-- edits.)
 -- Assumes nothing.
 use Prim.Native.Nat.{ℕ, zero, suc, _≤_}
 use mathlib.Core.Path.{_≡_, refl, sym, ap, _∙_}
@@ -74,8 +75,8 @@ module _ (s r : List ℕ) (plan : Plan s r) where
   valid = exactly-when s r .accepted .0 (plan .accepted) .0 .stored .sheet
 
   -- a complete checker says least of some record of the sheet
-  says-least : (f : Checker) → CompleteFor f s → (x : List ℕ) × (saysLeast (f s x) ≡ true)
-  says-least f complete =
+  some-least : (f : Checker) → CompleteFor f s → (x : List ℕ) × (saysLeast (f s x) ≡ true)
+  some-least f complete =
       let (bodies, are-bytes, ok) = complete .least valid (plan .few) (assigned r) model (claim r) least .1 claim-is in
       (recordOf (cost (problemOf s) (assigned r)) _ bodies, ok)
 
@@ -89,7 +90,7 @@ module _ (s r : List ℕ) (plan : Plan s r) where
 
 pub accepts-nothing : (f : Checker) → ((s r : List ℕ) → accepts (f s r) ≡ false) → ((s : List ℕ) → CompleteFor f s) → ⊥
 accepts-nothing f never complete =
-    let (x, ok) = says-least sheetA recordA planA f (complete sheetA) in
+    let (x, ok) = some-least sheetA recordA planA f (complete sheetA) in
     clash (least-accepts (f sheetA x) ok) (never sheetA x)
 
 pub refuses-all : (f : Checker) → ((s r : List ℕ) → passes (f s r) ≡ false) → ((s : List ℕ) → CompleteFor f s) → ⊥
@@ -140,8 +141,8 @@ other-sheet e = let z : _≡_ {A = ℕ} 36 8 = ap length e in omega (arith, z)
 pub one-acceptance : (f : Checker) (s₀ r₀ : List ℕ) → ((s r : List ℕ) → accepts (f s r) ≡ true → (s ≡ s₀) × (r ≡ r₀))
     → ((s : List ℕ) → CompleteFor f s) → ⊥
 one-acceptance f s₀ r₀ only complete =
-    let (x, ok) = says-least sheetA recordA planA f (complete sheetA) in
-    let (y, okay) = says-least sheetB1 recordB1 planB1 f (complete sheetB1) in
+    let (x, ok) = some-least sheetA recordA planA f (complete sheetA) in
+    let (y, okay) = some-least sheetB1 recordB1 planB1 f (complete sheetB1) in
     other-sheet (only sheetA x (least-accepts (f sheetA x) ok) .0 ∙ sym (only sheetB1 y (least-accepts (f sheetB1 y) okay) .0))
 
 other-claim : claim recordA ≡ claim recordB1 → ⊥

@@ -101,13 +101,13 @@ refusals-right = tt
 
 -- ---- by name
 
-named-A : saysLeast (judgement sheetA recordA) ≡ true
+named-A : (saysLeast (judgement sheetA recordA) ≡ true) × (saysNone (judgement sheetA recordA) ≡ false)
 unfolding right sheetA recordA
-named-A = refl
+named-A = (refl, refl)
 
-named-B2 : saysNone (judgement sheetB2 recordB2) ≡ true
+named-B2 : (saysNone (judgement sheetB2 recordB2) ≡ true) × (saysLeast (judgement sheetB2 recordB2) ≡ false)
 unfolding right bytesOf numbersOf pairsOf joined fileOf sheetOf stepOf recordOf none copyStep sheetB2 recordB2
-named-B2 = refl
+named-B2 = (refl, refl)
 
 -- neither accepted nor refused
 named-A4 :

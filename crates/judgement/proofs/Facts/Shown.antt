@@ -8,18 +8,19 @@ use mathlib.Core.Logic.{_⊎_, inl, inr}
 use native.Mathlib.Omega.{arith}
 use lib.ListN.{length, drop, length-take}
 use lib.Dec.{leb}
-use borrow.Author.Tests.{leb-true}
+use borrow.Author.Tests.{leb-true, le-leb}
 use Rattle.judgement.specs.declared.Kind.the-variants.{Copy, Cost, IndependentSet, Resolvent, WeightedSet}
 use Rattle.judgement.specs.Pairs.{pairOffset, pairLength, body}
 use Rattle.judgement.specs.Sheet.{clauses, clausePairsAt}
 use Rattle.judgement.specs.Record.{steps, stepPairsAt, step}
 use Rattle.judgement.specs.Step.{kindOf, cited}
-use Rattle.judgement.specs.Judgement.{judgement, passes, clausePart, literalsPart, stepPart, shownPart}
+use Rattle.judgement.specs.Judgement.{judgement, passes, clausePart, literalsPart, noPart, stepPart, shownPart}
 use Rattle.judgement.specs.Place.{Inside}
-use Rattle.judgement.specs.Facts.{Among, PairRule, ValidSheet, RecordLayout, StepLayout, Inference, copies, costs, independent, resolution, linear, BeforeClose}
+use Rattle.judgement.specs.Facts.{Among, PairRule, ValidSheet, RecordLayout, StepLayout, Inference, copies, costs, independent, resolution, linear, BeforeClose, Acceptable, WithinTolerance}
 use Rattle.judgement.proofs.Laws.Scan.{which, and-l, and-r}
 use Rattle.judgement.proofs.Facts.FirstByte.{begins-kind}
-use Rattle.judgement.proofs.Facts.Accepted.{passes-before}
+use Rattle.judgement.proofs.Facts.Accepted.{passes-before, exactly-when}
+use Rattle.judgement.proofs.Laws.Answers.{accepts-passes, within-passes}
 
 -- where the pairs keep their rule, every body ends in the file; `left` bodies come after it
 ends-before : (f : List ℕ) (at count : ℕ) → PairRule f at count → (left k : ℕ) → 1 ≤ k → k + left ≡ count
@@ -75,3 +76,18 @@ shown-inside s r k = go (which (passes (judgement s r) && leb 1 k && leb k (step
         → Inside s r (shownPart s r k)
     go (inl e) = rw e (there e)
     go (inr e) = rw e (omega arith)
+
+-- every step of a record that is accepted or within is shown
+pub shows-steps : (s r : List ℕ) (k : ℕ) → Acceptable s r ⊎ WithinTolerance s r → Among (steps r) k
+    → shownPart s r k ≡ stepPart (kindOf (step s r k)) s r k
+unfolding shownPart
+shows-steps s r k facts (l, h) = rw (ok facts, le-leb 1 k l, le-leb k (steps r) h)
+  where
+    ok : Acceptable s r ⊎ WithinTolerance s r → passes (judgement s r) ≡ true
+    ok (inl a) = accepts-passes (judgement s r) (exactly-when s r .accepted .1 a)
+    ok (inr w) = within-passes (judgement s r) (exactly-when s r .within .1 w)
+
+-- and nothing of one that is refused
+pub hides-refused : (s r : List ℕ) (k : ℕ) → passes (judgement s r) ≡ false → shownPart s r k ≡ noPart
+unfolding shownPart
+hides-refused s r k e = rw e

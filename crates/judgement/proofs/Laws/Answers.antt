@@ -2,7 +2,7 @@
 -- Assumes nothing.
 use Prim.Native.Nat.{_<_}
 use mathlib.Core.Path.{_≡_, refl}
-use mathlib.Core.Bool.{Bool, true, false, not, _||_}
+use mathlib.Core.Bool.{Bool, true, false, not, _&&_, _||_}
 use mathlib.Core.Logic.{_≢_, inl, inr}
 use native.Mathlib.Omega.{arith}
 use lib.Dec.{eqb}
@@ -10,7 +10,7 @@ use borrow.Author.Tests.{eq-eqb, eqb-true, ne-eqb}
 use Rattle.judgement.specs.declared.Answer.{Answer}
 use Rattle.judgement.specs.Meaning.{none}
 use Rattle.judgement.specs.Judgement.{passes, saysLeast, saysNone, saysWithin, accepts}
-use Rattle.judgement.proofs.Laws.Scan.{and-l, and-r, or-l, or-e, not-e, false-i}
+use Rattle.judgement.proofs.Laws.Scan.{and-l, and-r, or-l, or-r, or-e, not-e, false-i}
 
 module _ (a : Answer) where
   -- ---- acceptance
@@ -38,6 +38,20 @@ module _ (a : Answer) where
 
   pub accepts-least : accepts a ≡ true → a .cost ≢ none → saysLeast a ≡ true
   accepts-least e h = rw (accepts-passes e, eq-eqb (a .gap) 0 (accepts-gap e), ne-eqb (a .cost) none h)
+
+  pub says-cost : saysLeast a ≡ true → a .cost ≢ none
+  says-cost e z = not-e (eqb (a .cost) none) (and-r (passes a && eqb (a .gap) 0) (not (eqb (a .cost) none)) e) (eq-eqb (a .cost) none z)
+
+  -- ---- none
+
+  pub none-accepts : saysNone a ≡ true → accepts a ≡ true
+  none-accepts e = or-r (saysLeast a) (saysNone a) e
+
+  pub none-cost : saysNone a ≡ true → a .cost ≡ none
+  none-cost e = eqb-true (a .cost) none (and-r (passes a && eqb (a .gap) 0) (eqb (a .cost) none) e)
+
+  pub accepts-none : accepts a ≡ true → a .cost ≡ none → saysNone a ≡ true
+  accepts-none e z = rw (accepts-passes e, eq-eqb (a .gap) 0 (accepts-gap e), eq-eqb (a .cost) none z)
 
   -- ---- within
 

@@ -16,24 +16,12 @@ use Rattle.judgement.proofs.Laws.Findings.{Faults, fine-faults, need-fa
 abbrev pub Early : Finding → Type 0
 Early f = Faults (λ N P. leb N 11 ≡ true) f
 
-module _ (s r : List ℕ) where
-  ruleset early = (then-faults, over-faults, need-faults, cond-faults, fine-faults)
+ruleset early = (then-faults, over-faults, need-faults, cond-faults, fine-faults)
 
-  pub oversize-early : Early (oversize s r)
-  unfolding oversize
-  oversize-early = search early
-
+module _ (s : List ℕ) where
   pub sheet-early : Early (sheetFinding s)
   unfolding sheetFinding sheetHead sheetPairs pairsFinding pairFinding clauseForm
   sheet-early = search early depth 12
-
-  pub record-early : Early (recordFinding s r)
-  unfolding recordFinding recordHead strayBit recordPairs pairsFinding pairFinding
-  record-early = search early depth 12
-
-  pub assignment-early : Early (assignmentFinding s r)
-  unfolding assignmentFinding brokenClause claimedCost
-  assignment-early = search early depth 12
 
   pub form-early : (b : List ℕ) (k : ℕ) → Early (stepForm s b k)
   unfolding stepForm
@@ -42,3 +30,16 @@ module _ (s r : List ℕ) where
   pub citation-early : (b : List ℕ) (k : ℕ) → Early (citation s b k)
   unfolding citation
   citation-early b k = search early
+
+module _ (s r : List ℕ) where
+  pub oversize-early : Early (oversize s r)
+  unfolding oversize
+  oversize-early = search early
+
+  pub record-early : Early (recordFinding s r)
+  unfolding recordFinding recordHead strayBit recordPairs pairsFinding pairFinding
+  record-early = search early depth 12
+
+  pub assignment-early : Early (assignmentFinding s r)
+  unfolding assignmentFinding brokenClause claimedCost
+  assignment-early = search early depth 12

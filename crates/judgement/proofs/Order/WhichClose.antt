@@ -2,29 +2,27 @@
 -- Assumes nothing.
 use Prim.Native.Nat.{ℕ}
 use mathlib.Core.Path.{_≡_, refl, sym, _∙_}
-use mathlib.Core.Bool.{true, false}
+use mathlib.Core.Bool.{true, false, not}
 use mathlib.Core.List.{List}
 use mathlib.Core.Logic.{inl, inr}
 use native.Mathlib.Omega.{arith}
 use lib.Dec.{eqb, leb}
-use borrow.Author.Tests.{ne-eqb, leb-true}
+use borrow.Author.Tests.{ne-eqb, leb-true, not-true}
 use Rattle.judgement.specs.declared.Finding.{Finding}
 use Rattle.judgement.specs.declared.Finding.the-variants.{Fault}
 use Rattle.judgement.specs.Finding.{_then_}
 use Rattle.judgement.specs.Record.{steps}
 use Rattle.judgement.specs.declared.Kind.{Kind}
-use Rattle.judgement.specs.declared.Kind.the-variants.{Copy, Cost, IndependentSet, Resolvent, WeightedSet, Unknown}
-use Rattle.judgement.specs.Kinds.{trueFinding, negativeFinding, settledFinding, sharedFinding, dependsOn, dependence}
-use Rattle.judgement.specs.Kinds.{copyFinding, costBound, independentBound, pivotFinding, resolventFinding, lesserBound, resolutionFinding, kindFinding}
-use Rattle.judgement.specs.Linear.{weightsFinding, linearBound}
+use Rattle.judgement.specs.Kinds.{kindFinding}
 use Rattle.judgement.specs.Judgement.{stepFinding, close, finding, judgement}
 use Rattle.judgement.specs.Facts.{BeforeClose, StaysOpen}
 use Rattle.judgement.specs.Demands.{WhichClose}
-use Rattle.judgement.proofs.Laws.Scan.{clash}
+use Rattle.judgement.proofs.Laws.Scan.{clash, and-r}
 use Rattle.judgement.proofs.Laws.Findings.{fine-is, then-found, Faults, faults-map, fine-faults, need-faults, then-faults, over-faults, fault-has}
 use Rattle.judgement.proofs.Order.Early.{Early, oversize-early, sheet-early, record-early, assignment-early, form-early, citation-early}
 use Rattle.judgement.proofs.Facts.Accepted.{front, finding-is, front-facts, facts-front}
 use Rattle.judgement.proofs.Facts.Close.{open-fault, fault-open}
+use Rattle.judgement.proofs.Order.WhichKind.{isOfKind, kind-here}
 use Rattle.judgement.proofs.Order.WhichFault.{answer-fault}
 
 -- no fault of it is 19
@@ -41,20 +39,17 @@ module _ (s r : List ℕ) where
   ruleset others = (then-faults, over-faults, need-faults, fine-faults, early-others)
 
   kind-others : (k : ℕ) (K : Kind) → NotClose (kindFinding K s r k)
-  unfolding kindFinding copyFinding costBound trueFinding negativeFinding settledFinding sharedFinding dependsOn dependence independentBound resolutionFinding pivotFinding resolventFinding lesserBound weightsFinding linearBound
-  kind-others k Copy = search others
-  kind-others k Cost = search others
-  kind-others k IndependentSet = search others depth 12
-  kind-others k Resolvent = search others depth 12
-  kind-others k WeightedSet = search others depth 12
-  kind-others k Unknown = tt
+  kind-others k K = faults-map (λ N P. (isOfKind N ≡ true) × (P ≡ k)) (λ N P. eqb N 19 ≡ false) of-kind (kindFinding K s r k) (kind-here s r k K)
+    where
+      of-kind : (N P : ℕ) → (isOfKind N ≡ true) × (P ≡ k) → eqb N 19 ≡ false
+      of-kind N P h = not-true (eqb N 19) (and-r (not (leb N 11)) (not (eqb N 19)) (h .0))
 
   step-others : (k : ℕ) → NotClose (stepFinding s r k)
   unfolding stepFinding
-  step-others k = search (others, form-early s r, citation-early s r, kind-others) depth 12
+  step-others k = search (others, form-early s, citation-early s, kind-others) depth 12
 
   front-others : NotClose (front s r)
-  front-others = search (others, oversize-early s r, sheet-early s r, record-early s r, assignment-early s r, step-others) depth 12
+  front-others = search (others, oversize-early s r, sheet-early s, record-early s r, assignment-early s r, step-others) depth 12
 
   -- so it is the close's
   told-close : (P : ℕ) → finding s r ≡ Fault 19 P → (P ≡ steps r) × BeforeClose s r × StaysOpen s r

@@ -58,7 +58,7 @@ module _ (s r : List ℕ) where
 
   -- ---- a kind tells its refusals at the step
 
-  kind-here : (k : ℕ) (K : Kind) → Faults (λ N P. P ≡ k) (kindFinding K s r k)
+  pub kind-here : (k : ℕ) (K : Kind) → Faults (λ N P. (isOfKind N ≡ true) × (P ≡ k)) (kindFinding K s r k)
   unfolding kindFinding copyFinding costBound trueFinding negativeFinding settledFinding sharedFinding dependsOn dependence independentBound resolutionFinding pivotFinding resolventFinding lesserBound weightsFinding linearBound
   kind-here k Copy = search plain
   kind-here k Cost = search plain
@@ -104,9 +104,9 @@ module _ (s r : List ℕ) where
     unfolding stepFinding
     step-found k e =
         let b = step s r k in
-        let (form, after-form) = skip (stepForm s b k) _ (form-early s r b k) e in
-        let (cites, after-cites) = skip (citation s b k) _ (citation-early s r b k) after-form in
-        (form, cites, fault-has (λ N P. P ≡ k) (kindFinding (kindOf b) s r k) (kind-here k (kindOf b)) after-cites, after-cites)
+        let (form, after-form) = skip (stepForm s b k) _ (form-early s b k) e in
+        let (cites, after-cites) = skip (citation s b k) _ (citation-early s b k) after-form in
+        (form, cites, fault-has (λ N P. (isOfKind N ≡ true) × (P ≡ k)) (kindFinding (kindOf b) s r k) (kind-here k (kindOf b)) after-cites .1, after-cites)
 
     found-there : (k : ℕ) → P ≡ k → {f : Finding} → f ≡ Fault N P → f ≡ Fault N k
     found-there k place e = rw place at e
@@ -118,7 +118,7 @@ module _ (s r : List ℕ) where
     unfolding finding
     finding-kind e =
         let (size, after-size) = skip (oversize s r) _ (oversize-early s r) e in
-        let (sheet, after-sheet) = skip (sheetFinding s) _ (sheet-early s r) after-size in
+        let (sheet, after-sheet) = skip (sheetFinding s) _ (sheet-early s) after-size in
         let (layout, after-layout) = skip (recordFinding s r) _ (record-early s r) after-sheet in
         let (plan, after-plan) = skip (assignmentFinding s r) _ (assignment-early s r) after-layout in
         let (k, w, before, here) = over-found (stepFinding s r) (steps r) N P (stay _ (close s r) close-plain after-plan) in

@@ -1,5 +1,5 @@
--- What the facts of acceptance mean, and those of "within": every step is entailed, so the claim is true, or no further off than the
--- last bound.
+-- What the facts of acceptance mean, and those of "within": every step is entailed, so the claim is true, or no model costs less than
+-- the last bound.
 -- Assumes nothing.
 use Prim.Native.Nat.{ℕ, zero, suc, _*_, _≤_, _<_}
 use mathlib.Core.Path.{_≡_}
@@ -59,15 +59,15 @@ empty-false b α e c held =
     absurd (omega (arith, w .0, w .1))
 
 -- where step t has no literals, its bound is one on every model
-lower-bound : (s r : List ℕ) → BeforeClose s r → literalCount (lastStep s r) ≡ 0 → (β : Assignment) → Model (problemOf s) β
+last-bound : (s r : List ℕ) → BeforeClose s r → literalCount (lastStep s r) ≡ 0 → (β : Assignment) → Model (problemOf s) β
     → bound (lastStep s r) ≤ cost (problemOf s) β
-lower-bound s r facts empty β model =
+last-bound s r facts empty β model =
     let last : Among (steps r) (steps r) = (facts .stored .layout .t, omega arith) in
     entailed s r facts (steps r) last β model (empty-false (lastStep s r) β empty)
 
 pub bound-holds : (s r : List ℕ) → Acceptable s r → (β : Assignment) → Model (problemOf s) β → claim r ≤ cost (problemOf s) β
 bound-holds s r (facts, closes) β model =
-    let h = lower-bound s r facts (closes .empty) β model in
+    let h = last-bound s r facts (closes .empty) β model in
     let e = closes .reaches in
     omega arith
 
@@ -92,4 +92,4 @@ sound-facts s r bytes (facts, closes) = (λ some. (facts .stored .model some, fa
 pub within-facts : (s r : List ℕ) → WithinTolerance s r
     → Model (problemOf s) (assigned r) × (cost (problemOf s) (assigned r) ≡ claim r)
     × ((β : Assignment) → Model (problemOf s) β → bound (lastStep s r) ≤ cost (problemOf s) β)
-within-facts s r (facts, short) = (facts .stored .model (short .some), facts .stored .cost-is (short .some), lower-bound s r facts (short .empty))
+within-facts s r (facts, short) = (facts .stored .model (short .some), facts .stored .cost-is (short .some), last-bound s r facts (short .empty))

@@ -1,7 +1,7 @@
 -- `checker::steps::gap_of` meets its contract.
 -- Assumes nothing.
 use native.Mathlib.Omega.{arith}
-use Rattle.checker.proofs.Known.{gap-is}
+use Rattle.checker.proofs.Known.{gap-by}
 use borrow.Author.Needs.{needs}
 use Rattle.checker.proofs.steps.gap_of.Statement.{statement}
 use Rattle.checker.proofs.steps.gap_of.Tie as tie
@@ -21,7 +21,7 @@ claimed-requires c κs = search needs
 returns : tie.Need-returns
 returns c =
     let low = c .before .before .bound-of .ensures in
-    let is = gap-is _ _ _ (c .before .before .before .before .step-count .ensures) (c .before .before .before .step-of .ensures .0) low (c .before .claimed .ensures) in
+    let is = gap-by _ _ _ (c .before .before .before .before .step-count .ensures) (c .before .before .before .step-of .ensures .0) low (c .before .claimed .ensures) in
     omega (arith, is, c .if1 .taken)
 
 sub-result : tie.Need-sub-result
@@ -29,7 +29,7 @@ sub-result c = omega (arith, c .if1 .left)
 
 returns-2 : tie.Need-returns-2
 returns-2 c =
-    gap-is _ _ _ (c .before .before .before .before .step-count .ensures) (c .before .before .before .step-of .ensures .0) (c .before .before .bound-of .ensures) (c .before .claimed .ensures)
+    gap-by _ _ _ (c .before .before .before .before .step-count .ensures) (c .before .before .before .step-of .ensures .0) (c .before .before .bound-of .ensures) (c .before .claimed .ensures)
 
 pub gap-of-spec : {M : Type 1} → statement M
 gap-of-spec =

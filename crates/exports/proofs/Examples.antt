@@ -1,0 +1,18 @@
+-- The numbers of an answer and of a part in their places, as include/plan.h names them.
+-- Assumes nothing.
+use mathlib.Core.Path.{_≡_, refl}
+use mathlib.Core.Bool.{true}
+use mathlib.Core.List.{[], _∷_}
+use Rattle.judgement.specs.Computed.{within, refused}
+use Rattle.exports.specs.Numbers.{answerNumbers, partNumbers}
+
+-- number, place, cost, open count, step count, gap
+within-numbers : answerNumbers (within 4 7 2 1) ≡ 0 ∷ 0 ∷ 7 ∷ 2 ∷ 1 ∷ 4 ∷ []
+within-numbers = refl
+
+refused-numbers : answerNumbers (refused 19 5) ≡ 19 ∷ 5 ∷ 0 ∷ 0 ∷ 0 ∷ 0 ∷ []
+refused-numbers = refl
+
+-- the sheet, start, size
+part-numbers : partNumbers (record { «in_sheet» = true; start = 32; size = 4 }) ≡ 1 ∷ 32 ∷ 4 ∷ []
+part-numbers = refl
