@@ -1,5 +1,5 @@
--- Demand 3: what acceptance says of every valid sheet, and which claims about a sheet of at most 16 variables are accepted; and what
--- "within" says.
+-- Demand 3: what acceptance and "within" say of every valid sheet, and which claims about a sheet of at most 16 variables are
+-- accepted.
 -- Assumes nothing.
 use Prim.Native.Nat.{ℕ, _-_, _*_, _≤_, _<_}
 use mathlib.Core.Path.{_≡_, refl, sym, _∙_}
@@ -62,11 +62,11 @@ stored-spare : (c n : ℕ) (α : Assignment) (bodies : List (List ℕ)) (v : ℕ
     → assigned (recordOf c (assignmentOf n α) bodies) v ≡ false
 stored-spare c n α bodies v l h = record-packed c n α bodies v (omega arith) h ∙ rw (lt-leb v n l)
 
-module _ (s : List ℕ) (bytes : IsBytes s) (valid : ValidSheet s) (few : variables s ≤ 16) where
+module _ (s : List ℕ) (bytes : IsBytes s) where
   -- least, so not dearer than any model, the cheapest among them
-  least-of : (α : Assignment) → Model (problemOf s) α → (L : ℕ) → Least (problemOf s) L
+  least-of : ValidSheet s → (α : Assignment) → Model (problemOf s) α → (L : ℕ) → Least (problemOf s) L
       → SomeSteps saysLeast judgement s (cost (problemOf s) α) (assignmentOf (variables s) α) → cost (problemOf s) α ≡ L
-  least-of α m L least (bodies, are-bytes, ok) =
+  least-of valid α m L least (bodies, are-bytes, ok) =
       let c = cost (problemOf s) α in
       let small = cost-below-none s bytes (valid .n .1) α in
       let claim-is = record-claim c (assignmentOf (variables s) α) bodies (omega (arith, small)) in
@@ -76,6 +76,12 @@ module _ (s : List ℕ) (bytes : IsBytes s) (valid : ValidSheet s) (few : variab
       let low = least .below α m in
       omega (arith, claim-is, e, high, low)
 
+  none-of : SomeSteps accepts judgement s none (replicate (assignmentSize (variables s)) 0) → Unsatisfiable (problemOf s)
+  none-of (bodies, are-bytes, ok) =
+      sound s (recordOf none (replicate (assignmentSize (variables s)) 0) bodies) bytes .none-exists ok
+      (record-claim none (replicate (assignmentSize (variables s)) 0) bodies (le-refl none))
+
+module _ (s : List ℕ) (bytes : IsBytes s) (valid : ValidSheet s) (few : variables s ≤ 16) where
   -- the least, so the decision tree's steps close
   of-least : (α : Assignment) → Model (problemOf s) α → (L : ℕ) → Least (problemOf s) L → cost (problemOf s) α ≡ L
       → SomeSteps saysLeast judgement s (cost (problemOf s) α) (assignmentOf (variables s) α)
@@ -90,7 +96,7 @@ module _ (s : List ℕ) (bytes : IsBytes s) (valid : ValidSheet s) (few : variab
         bodiesOf ts,
         written-bytes c (assignmentOf (variables s) α) ts (packed-bytes (variables s) α),
         exactly-when s (recordOf c (assignmentOf (variables s) α) (bodiesOf ts)) .least .1 (
-          written-acceptable s valid few ts derivation c c-small (assignmentOf (variables s) α) (packed-length (variables s) α)
+          written-acceptable s valid ts derivation c c-small (assignmentOf (variables s) α) (packed-length (variables s) α)
               (stored-spare c (variables s) α (bodiesOf ts))
               (λ z. absurd (omega (arith, small, z)))
               (λ some. model-local s valid α (assigned (recordOf c (assignmentOf (variables s) α) (bodiesOf ts))) agree m)
@@ -102,11 +108,6 @@ module _ (s : List ℕ) (bytes : IsBytes s) (valid : ValidSheet s) (few : variab
 
   -- ---- "none"
 
-  none-of : SomeSteps accepts judgement s none (replicate (assignmentSize (variables s)) 0) → Unsatisfiable (problemOf s)
-  none-of (bodies, are-bytes, ok) =
-      sound s (recordOf none (replicate (assignmentSize (variables s)) 0) bodies) bytes .none-exists ok
-      (record-claim none (replicate (assignmentSize (variables s)) 0) bodies (le-refl none))
-
   of-none : Unsatisfiable (problemOf s) → SomeSteps accepts judgement s none (replicate (assignmentSize (variables s)) 0)
   of-none breaks =
       let (ts, derivation, reaches) = tree s bytes valid few in
@@ -116,7 +117,7 @@ module _ (s : List ℕ) (bytes : IsBytes s) (valid : ValidSheet s) (few : variab
         bodiesOf ts,
         written-bytes none (replicate w 0) ts (clear-bytes w),
         exactly-when s (recordOf none (replicate w 0) (bodiesOf ts)) .accepted .1
-            (written-acceptable s valid few ts derivation none (le-refl none) (replicate w 0) (length-replicate w 0)
+            (written-acceptable s valid ts derivation none (le-refl none) (replicate w 0) (length-replicate w 0)
             (λ v l h. clear v (omega arith) h)
             (λ z v u. clear v (u .0) (omega (arith, u .1)))
             (λ some. absurd (some refl))
@@ -131,7 +132,7 @@ module _ (s : List ℕ) (bytes : IsBytes s) (valid : ValidSheet s) (few : variab
 
 pub complete : (s : List ℕ) → IsBytes s → Complete s
 complete s bytes = record {
-  least = λ valid few α m L least. (least-of s bytes valid few α m L least, of-least s bytes valid few α m L least);
+  least = λ valid few α m L least. (least-of s bytes valid α m L least, of-least s bytes valid few α m L least);
   exists = λ valid few. least-exists s valid;
-  none-exists = λ valid few. (none-of s bytes valid few, of-none s bytes valid few);
+  none-exists = λ valid few. (none-of s bytes, of-none s bytes valid few);
 }

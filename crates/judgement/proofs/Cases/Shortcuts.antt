@@ -1,9 +1,9 @@
 -- Cheap checkers that the demands shut out: one that never accepts, so one that refuses all or answers "within" to all; one that
 -- says "least" of every cost, or accepts all; one that accepts nothing but one pair of files; one whose acceptances are all the same
--- answer; and one that accepts "none" unread. (One that trusts steps after the first, and one that invents a count, are must-fail
+-- answer; one that accepts "none" unread; and one that tells too small a gap. (One that trusts steps after the first, and one that invents a count, are must-fail
 -- edits.)
 -- Assumes nothing.
-use Prim.Native.Nat.{ℕ, zero, suc, _≤_}
+use Prim.Native.Nat.{ℕ, zero, suc, _≤_, _<_}
 use mathlib.Core.Path.{_≡_, refl, sym, ap, _∙_}
 use mathlib.Core.Bool.{Bool, true, false, _&&_}
 use mathlib.Core.List.{List, [], _∷_}
@@ -21,7 +21,7 @@ use Rattle.judgement.specs.declared.Answer.{Answer}
 use Rattle.judgement.specs.Judgement.{judgement, passes, saysLeast, saysWithin, accepts}
 use Rattle.judgement.specs.Computed.{right}
 use Rattle.judgement.specs.Facts.{ValidSheet}
-use Rattle.judgement.specs.Demands.{IsBytes, Shape, ExactlyWhen, Checker, Sound, CompleteFor}
+use Rattle.judgement.specs.Demands.{IsBytes, Shape, ExactlyWhen, Checker, Sound, SoundWithin, CompleteFor}
 use Rattle.judgement.proofs.Laws.Scan.{clash, and-l, and-r, false-i, all-each}
 use Rattle.judgement.proofs.Laws.Answers.{accepts-passes, least-accepts, within-apart}
 use Rattle.judgement.proofs.Laws.Models.{satisfied-satisfies}
@@ -30,11 +30,12 @@ use Rattle.judgement.proofs.Facts.Accepted.{exactly-when}
 use Rattle.judgement.proofs.Complete.Packed.{packed-bytes, clear-bytes}
 use Rattle.judgement.proofs.Complete.Written.{record-claim, written-bytes}
 use Rattle.judgement.proofs.Promised.{sound}
+use Rattle.judgement.proofs.Cases.Within.{recordA4}
 use Rattle.judgement.proofs.Cases.Starred.{sheetA, recordA, sheetB1, recordB1, costStep}
 
 -- ---- a plan that the judgement accepts
 
-pub record Plan (s r : List ℕ) : Type 0 where
+record Plan (s r : List ℕ) : Type 0 where
   pub bytes : IsBytes s
   pub accepted : accepts (judgement s r) ≡ true
   pub some : claim r ≢ none
@@ -118,7 +119,7 @@ dearer-claim bits e =
     let below = cost-below-none sheetA (planA .bytes) (valid sheetA recordA planA .n .1) dearer in
     omega (arith, e, below, record-claim (cost (problemOf sheetA) dearer) bits [] (omega (arith, below)))
 
--- of two costs that differ
+-- one that says "least" of every cost: the costs of two models differ
 pub least-all : (f : Checker) → ((s r : List ℕ) → claim r ≢ none → saysLeast (f s r) ≡ true) → ((s : List ℕ) → CompleteFor f s) → ⊥
 least-all f always complete =
     dearer-costs
@@ -149,7 +150,7 @@ other-claim : claim recordA ≡ claim recordB1 → ⊥
 unfolding right sheetA recordA bytesOf numbersOf pairsOf joined fileOf stepOf recordOf costStep recordB1
 other-claim e = omega (arith, e)
 
--- f answers, and each of its acceptances is a
+-- one whose acceptances are all a
 pub fixed-answer : (f : Checker) (a : Answer) → ((s r : List ℕ) → accepts (f s r) ≡ true → f s r ≡ a)
     → ((s r : List ℕ) → Shape s r (f s r)) → ((s r : List ℕ) → ExactlyWhen s r (f s r)) → ⊥
 fixed-answer f a fixed shaped exactly =
@@ -163,3 +164,10 @@ none-unread f unread sound-f =
     let e : claim r ≡ none = record-claim none [] [] (le-refl none) in
     let (k, l, h, out) = sound-f sheetA r .none-exists (unread sheetA r e) e (assigned recordA) in
     out (model sheetA recordA planA k l h)
+
+-- one that tells too small a gap: of A4, whose cost is 8 where 3 is the least
+pub small-gap : (a : Answer) → saysWithin a ≡ true → a .cost ≡ 8 → a .gap < 5 → SoundWithin sheetA recordA4 a → ⊥
+unfolding right sheetA recordA
+small-gap a ok costs small says =
+    let (m, cost-is, inside, below) = says ok in
+    omega (arith, costs, small, below (assigned recordA) (model sheetA recordA planA), claim-is sheetA recordA planA)

@@ -265,14 +265,14 @@ module _ (s : List ℕ) (valid : ValidSheet s) (ts : List Typed) (d : Derivation
 
 -- what is left to know of the record: its spare bits are clear, all are under "none", the claim is its assignment's cost
 -- otherwise, and the last step's bound reaches the claim
-pub written-acceptable : (s : List ℕ) → ValidSheet s → variables s ≤ 16 → (ts : List Typed) → Derivation s ts → (c : ℕ) → c ≤ none
+pub written-acceptable : (s : List ℕ) → ValidSheet s → (ts : List Typed) → Derivation s ts → (c : ℕ) → c ≤ none
     → (bits : List ℕ) → length bits ≡ assignmentSize (variables s)
     → ((v : ℕ) → variables s < v → v ≤ 8 * assignmentSize (variables s) → assigned (recordOf c bits (bodiesOf ts)) v ≡ false)
     → (c ≡ none → (v : ℕ) → Among (variables s) v → assigned (recordOf c bits (bodiesOf ts)) v ≡ false)
     → (c ≢ none → Model (problemOf s) (assigned (recordOf c bits (bodiesOf ts))))
     → (c ≢ none → cost (problemOf s) (assigned (recordOf c bits (bodiesOf ts))) ≡ c)
     → c ≤ boundOf (nth ts (length ts)) → Acceptable s (recordOf c bits (bodiesOf ts))
-written-acceptable s valid _ ts d c small bits whole spare clear model cost-is reaches =
+written-acceptable s valid ts d c small bits whole spare clear model cost-is reaches =
     let e = written-claim s valid ts d c small bits whole in (
       record {
         stored = record {

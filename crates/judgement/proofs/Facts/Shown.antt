@@ -1,4 +1,4 @@
--- The part that is shown lies in the file that it names.
+-- The part that is shown lies in the file that it names; which records are shown.
 -- Assumes nothing.
 use Prim.Native.Nat.{ℕ, zero, suc, _+_, _-_, _≤_}
 use mathlib.Core.Path.{_≡_}
@@ -77,11 +77,16 @@ shown-inside s r k = go (which (passes (judgement s r) && leb 1 k && leb k (step
     go (inl e) = rw e (there e)
     go (inr e) = rw e (omega arith)
 
--- every step of a record that is accepted or within is shown
-pub shows-steps : (s r : List ℕ) (k : ℕ) → Acceptable s r ⊎ WithinTolerance s r → Among (steps r) k
+-- every step of a record that passes is shown
+pub shows-passed : (s r : List ℕ) (k : ℕ) → passes (judgement s r) ≡ true → Among (steps r) k
     → shownPart s r k ≡ stepPart (kindOf (step s r k)) s r k
 unfolding shownPart
-shows-steps s r k facts (l, h) = rw (ok facts, le-leb 1 k l, le-leb k (steps r) h)
+shows-passed s r k ok (l, h) = rw (ok, le-leb 1 k l, le-leb k (steps r) h)
+
+-- so of one that is accepted or within
+pub shows-steps : (s r : List ℕ) (k : ℕ) → Acceptable s r ⊎ WithinTolerance s r → Among (steps r) k
+    → shownPart s r k ≡ stepPart (kindOf (step s r k)) s r k
+shows-steps s r k facts w = shows-passed s r k (ok facts) w
   where
     ok : Acceptable s r ⊎ WithinTolerance s r → passes (judgement s r) ≡ true
     ok (inl a) = accepts-passes (judgement s r) (exactly-when s r .accepted .1 a)

@@ -1,16 +1,17 @@
--- Laws of the names of answers: what each says of the number and the gap.
+-- Laws of the names of answers: what each says of number, gap and cost.
 -- Assumes nothing.
 use Prim.Native.Nat.{_<_}
-use mathlib.Core.Path.{_≡_, refl}
-use mathlib.Core.Bool.{Bool, true, false, not, _&&_, _||_}
-use mathlib.Core.Logic.{_≢_, inl, inr}
+use mathlib.Core.Path.{_≡_}
+use mathlib.Core.Bool.{true, false, not, _&&_, not-or-self}
+use mathlib.Core.Logic.{_≢_, _⊎_, inl, inr}
 use native.Mathlib.Omega.{arith}
+use native.Mathlib.Decide.{decLt}
 use lib.Dec.{eqb}
 use borrow.Author.Tests.{eq-eqb, eqb-true, ne-eqb}
 use Rattle.judgement.specs.declared.Answer.{Answer}
 use Rattle.judgement.specs.Meaning.{none}
 use Rattle.judgement.specs.Judgement.{passes, saysLeast, saysNone, saysWithin, accepts}
-use Rattle.judgement.proofs.Laws.Scan.{and-l, and-r, or-l, or-r, or-e, not-e, false-i}
+use Rattle.judgement.proofs.Laws.Scan.{which, and-l, and-r, or-l, or-r, or-e, not-e, false-i}
 
 module _ (a : Answer) where
   -- ---- acceptance
@@ -25,11 +26,7 @@ module _ (a : Answer) where
   ]
 
   pub passes-accepts : passes a ≡ true → a .gap ≡ 0 → accepts a ≡ true
-  passes-accepts p e = rw (p, eq-eqb (a .gap) 0 e) (go (eqb (a .cost) none))
-    where
-      go : (b : Bool) → not b || b ≡ true
-      go true = refl
-      go false = refl
+  passes-accepts p e = rw (p, eq-eqb (a .gap) 0 e) (not-or-self (eqb (a .cost) none))
 
   -- ---- least
 
@@ -39,8 +36,8 @@ module _ (a : Answer) where
   pub accepts-least : accepts a ≡ true → a .cost ≢ none → saysLeast a ≡ true
   accepts-least e h = rw (accepts-passes e, eq-eqb (a .gap) 0 (accepts-gap e), ne-eqb (a .cost) none h)
 
-  pub says-cost : saysLeast a ≡ true → a .cost ≢ none
-  says-cost e z = not-e (eqb (a .cost) none) (and-r (passes a && eqb (a .gap) 0) (not (eqb (a .cost) none)) e) (eq-eqb (a .cost) none z)
+  pub least-not-none : saysLeast a ≡ true → a .cost ≢ none
+  least-not-none e z = not-e (eqb (a .cost) none) (and-r (passes a && eqb (a .gap) 0) (not (eqb (a .cost) none)) e) (eq-eqb (a .cost) none z)
 
   -- ---- none
 
@@ -66,6 +63,15 @@ module _ (a : Answer) where
   pub gap-within : passes a ≡ true → 0 < a .gap → saysWithin a ≡ true
   gap-within p h = rw (p, ne-eqb (a .gap) 0 (λ z. omega (arith, z, h)))
 
-  -- it is no acceptance
+  -- an answer is an acceptance, within, or a refusal
+  pub one-of-three : (accepts a ≡ true) ⊎ (saysWithin a ≡ true) ⊎ (passes a ≡ false)
+  one-of-three = go (which (passes a)) (decLt 0 (a .gap))
+    where
+      go : (passes a ≡ true) ⊎ (passes a ≡ false) → Dec (0 < a .gap) → (accepts a ≡ true) ⊎ (saysWithin a ≡ true) ⊎ (passes a ≡ false)
+      go (inr e) gap = inr (inr e)
+      go (inl p) (yes h) = inr (inl (gap-within p h))
+      go (inl p) (no h) = inl (passes-accepts p (omega (arith, h)))
+
+  -- within is no acceptance
   pub within-apart : saysWithin a ≡ true → accepts a ≡ false
   within-apart w = false-i (accepts a) (λ e. omega (arith, within-gap w, accepts-gap e))

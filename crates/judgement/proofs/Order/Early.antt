@@ -1,4 +1,4 @@
--- The tests before the steps, and those of a step's form and citations, tell refusals 1 to 11 and no other.
+-- The tests before the steps, and those of a step's form and citations, tell no number above 11.
 -- Assumes nothing.
 use Prim.Native.Nat.{ℕ}
 use mathlib.Core.Path.{_≡_}

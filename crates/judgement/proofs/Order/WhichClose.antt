@@ -18,7 +18,7 @@ use Rattle.judgement.specs.Judgement.{stepFinding, close, finding, judge
 use Rattle.judgement.specs.Facts.{BeforeClose, StaysOpen}
 use Rattle.judgement.specs.Demands.{WhichClose}
 use Rattle.judgement.proofs.Laws.Scan.{clash, and-r}
-use Rattle.judgement.proofs.Laws.Findings.{fine-is, then-found, Faults, faults-map, fine-faults, need-faults, then-faults, over-faults, fault-has}
+use Rattle.judgement.proofs.Laws.Findings.{fine-is, then-found, Faults, faults-map, then-faults, over-faults, fault-has}
 use Rattle.judgement.proofs.Order.Early.{Early, oversize-early, sheet-early, record-early, assignment-early, form-early, citation-early}
 use Rattle.judgement.proofs.Facts.Accepted.{front, finding-is, front-facts, facts-front}
 use Rattle.judgement.proofs.Facts.Close.{open-fault, fault-open}
@@ -36,7 +36,7 @@ early-others f = faults-map (λ N P. leb N 11 ≡ true) (λ N P. eqb N 19 ≡ fa
     below N P e = ne-eqb N 19 (λ z. omega (arith, leb-true N 11 e, z))
 
 module _ (s r : List ℕ) where
-  ruleset others = (then-faults, over-faults, need-faults, fine-faults, early-others)
+  ruleset others = (then-faults, over-faults, early-others)
 
   kind-others : (k : ℕ) (K : Kind) → NotClose (kindFinding K s r k)
   kind-others k K = faults-map (λ N P. (isOfKind N ≡ true) × (P ≡ k)) (λ N P. eqb N 19 ≡ false) of-kind (kindFinding K s r k) (kind-here s r k K)
@@ -51,12 +51,12 @@ module _ (s r : List ℕ) where
   front-others : NotClose (front s r)
   front-others = search (others, oversize-early s r, sheet-early s, record-early s r, assignment-early s r, step-others) depth 12
 
-  -- so it is the close's
+  -- so 19 is told by the close
   told-close : (P : ℕ) → finding s r ≡ Fault 19 P → (P ≡ steps r) × BeforeClose s r × StaysOpen s r
   told-close P e = elim (then-found (front s r) (close s r) 19 P (sym (finding-is s r) ∙ e)) [
     | inl q ↦ absurd (clash refl (fault-has (λ N P. eqb N 19 ≡ false) (front s r) front-others q))
     | inr (fine, last) ↦
-        let (place, stays) = fault-open s r 19 P last in
+        let (place, stays) = fault-open s r P last in
         (place, front-facts s r fine, stays)
   ]
 

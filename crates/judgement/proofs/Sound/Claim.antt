@@ -1,5 +1,5 @@
--- What the facts of acceptance mean, and those of "within": every step is entailed, so the claim is true, or no model costs less than
--- the last bound.
+-- What the facts of acceptance mean, and those of "within": every step is entailed, so the claim is true, or no model costs less
+-- than the last bound.
 -- Assumes nothing.
 use Prim.Native.Nat.{ℕ, zero, suc, _*_, _≤_, _<_}
 use mathlib.Core.Path.{_≡_}
@@ -45,8 +45,7 @@ entailed-below s r facts zero k h w = absurd (omega arith)
 entailed-below s r facts (suc top) k h w =
     inferred s r facts k w (facts .inferences k w) λ j l m. entailed-below s r facts top j (omega arith) (l, omega (arith, w .1))
 
-pub entailed : (s r : List ℕ) → BeforeClose s r → (k : ℕ) → Among (steps r) k
-    → Entailed (problemOf s) (record { literals = holds (literals (step s r k)); bound = bound (step s r k) })
+entailed : (s r : List ℕ) → BeforeClose s r → (k : ℕ) → Among (steps r) k → StepEntailed s r k
 entailed s r facts k w = entailed-below s r facts (suc k) k (omega arith) w
 
 -- ---- the claim
