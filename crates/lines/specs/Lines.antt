@@ -4,7 +4,7 @@ use Prim.Native.Nat.{ℕ, zero, suc, _+_, _/_, _%_}
 use mathlib.Core.Bool.{cond}
 use mathlib.Core.List.{List, [], _∷_, _++_}
 use lib.Dec.{ltb}
-use Rattle.judgement.specs.Judgement.{saysLeast, saysNone, saysWithin}
+use Rattle.judgement.specs.Judgement.{passes, saysLeast, saysNone}
 use Rattle.judgement.specs.declared.Answer.{Answer}
 use Rattle.lines.specs.Text.{codes}
 
@@ -38,10 +38,10 @@ refusedLine number place = codes "refused " ++ decimalOf number ++ codes " at " 
 
 unfoldable pub lineOf : Answer → List ℕ
 lineOf a =
-    cond (saysLeast a)
+    cond (passes a)
+    (cond (saysLeast a)
     (leastLine (a .cost) (a .«open_count») (a .«step_count»))
     (cond (saysNone a)
     (noneLine (a .«step_count»))
-    (cond (saysWithin a)
-    (withinLine (a .gap) (a .cost) (a .«open_count») (a .«step_count»))
-    (refusedLine (a .number) (a .place))))
+    (withinLine (a .gap) (a .cost) (a .«open_count») (a .«step_count»))))
+    (refusedLine (a .number) (a .place))

@@ -11,7 +11,7 @@ use borrow.Author.Tests.{eq-eqb, eqb-true, ne-eqb}
 use Rattle.judgement.specs.declared.Answer.{Answer}
 use Rattle.judgement.specs.Meaning.{none}
 use Rattle.judgement.specs.Judgement.{passes, saysLeast, saysNone, saysWithin, accepts}
-use Rattle.judgement.proofs.Laws.Scan.{which, and-l, and-r, or-l, or-r, or-e, not-e, false-i}
+use Rattle.judgement.proofs.Laws.Scan.{and-l, and-r, or-l, or-r, or-e, not-e, false-i}
 
 module _ (a : Answer) where
   -- ---- acceptance
@@ -53,24 +53,24 @@ module _ (a : Answer) where
   -- ---- within
 
   pub within-passes : saysWithin a ≡ true → passes a ≡ true
-  within-passes e = and-l (passes a) (not (eqb (a .gap) 0)) e
+  within-passes e = search (e, and-l)
 
   pub within-gap : saysWithin a ≡ true → 0 < a .gap
   within-gap e =
-      let some : a .gap ≢ 0 = λ z. not-e (eqb (a .gap) 0) (and-r (passes a) (not (eqb (a .gap) 0)) e) (eq-eqb (a .gap) 0 z) in
+      let h : not (eqb (a .gap) 0) ≡ true = search (e, and-l, and-r) depth 12 in
+      let some : a .gap ≢ 0 = λ z. not-e (eqb (a .gap) 0) h (eq-eqb (a .gap) 0 z) in
       omega (arith, some)
 
-  pub gap-within : passes a ≡ true → 0 < a .gap → saysWithin a ≡ true
-  gap-within p h = rw (p, ne-eqb (a .gap) 0 (λ z. omega (arith, z, h)))
+  pub gap-within : passes a ≡ true → 0 < a .gap → a .cost ≢ none → saysWithin a ≡ true
+  gap-within p h some = rw (p, ne-eqb (a .gap) 0 (λ z. omega (arith, z, h)), ne-eqb (a .cost) none some)
 
-  -- an answer is an acceptance, within, or a refusal
-  pub one-of-three : (accepts a ≡ true) ⊎ (saysWithin a ≡ true) ⊎ (passes a ≡ false)
-  one-of-three = go (which (passes a)) (decLt 0 (a .gap))
+  -- where a gap is never that of "none", an answer that passes is an acceptance or within
+  pub passes-one-of : passes a ≡ true → (0 < a .gap → a .cost ≢ none) → (accepts a ≡ true) ⊎ (saysWithin a ≡ true)
+  passes-one-of p some = go (decLt 0 (a .gap))
     where
-      go : (passes a ≡ true) ⊎ (passes a ≡ false) → Dec (0 < a .gap) → (accepts a ≡ true) ⊎ (saysWithin a ≡ true) ⊎ (passes a ≡ false)
-      go (inr e) gap = inr (inr e)
-      go (inl p) (yes h) = inr (inl (gap-within p h))
-      go (inl p) (no h) = inl (passes-accepts p (omega (arith, h)))
+      go : Dec (0 < a .gap) → (accepts a ≡ true) ⊎ (saysWithin a ≡ true)
+      go (yes h) = inr (gap-within p h (some h))
+      go (no h) = inl (passes-accepts p (omega (arith, h)))
 
   -- within is no acceptance
   pub within-apart : saysWithin a ≡ true → accepts a ≡ false
