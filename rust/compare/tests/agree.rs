@@ -4,7 +4,7 @@
 use compare::{hex, judge};
 use planner::padding::Mix;
 use proved::show;
-use samples::draft::{overwrite, read_u32, read_u64};
+use samples::draft::{overwrite, read_u32, read_u64, Body, Draft, Files};
 use samples::examples::{examples, Example};
 use samples::outcome::{Outcome, Tally};
 use samples::weights::largest;
@@ -217,6 +217,30 @@ fn with_other_bound(record: &[u8], step: u64, more: i64) -> Option<Vec<u8>> {
     let mut changed = record.to_vec();
     overwrite(&mut changed, place, &bound.to_le_bytes())?;
     Some(changed)
+}
+
+/// The open count of every byte that an assignment can have, as its first one and, cut to 1 to 8 variables, as its last. What
+/// the operation counts is proved; what the compiler makes of it is tried here. Nothing costs anything, so that every
+/// assignment is a least one.
+#[test]
+fn on_every_byte_of_an_assignment() {
+    for left in 1..=8 {
+        for byte in 0..=u8::MAX {
+            let mut draft = Draft {
+                costs: vec![0; 8 + left],
+                clauses: Vec::new(),
+                claim: 0,
+                assignment: vec![byte, !byte & (u8::MAX >> (8 - left))],
+                steps: Vec::new(),
+            };
+            draft.steps.push(Body::cost(&draft, Vec::new()).bytes());
+            let Files { sheet, record } = draft.files();
+            let what = format!("byte {byte}, variables in the next: {left}");
+            assert_eq!(same(&sheet, &record, &what), Outcome::Least);
+            let open = (1..=draft.variables()).filter(|variable| draft.value(*variable));
+            assert_eq!(judge(&sheet, &record).open_count, open.count() as u64);
+        }
+    }
 }
 
 #[test]
