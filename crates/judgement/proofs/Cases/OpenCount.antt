@@ -1,10 +1,10 @@
--- The open count of assignments of a whole byte and of more than one, which no starred case has.
+-- The open count of assignments that end within a byte and with one, in one byte and in more. No other record here that passes
+-- has more than three variables.
 -- Assumes nothing.
 use Prim.Native.Nat.{ℕ}
 use mathlib.Core.List.{List, [], _∷_}
 use lib.ListN.{replicate}
 use lib.Dec.{T}
-use Rattle.judgement.specs.Meaning.{none}
 use Rattle.judgement.specs.Writer.{bytesOf, numbersOf, pairsOf, joined, fileOf, sheetOf, stepOf, recordOf}
 use Rattle.judgement.specs.Computed.{Case, accepted, allRight}
 use Rattle.judgement.proofs.Cases.Starred.{costStep}
@@ -27,5 +27,5 @@ counts =
     ∷ []
 
 open-counts : T (allRight counts)
-unfolding bytesOf numbersOf pairsOf joined fileOf sheetOf stepOf recordOf none costStep counted counts allRight
+unfolding bytesOf numbersOf pairsOf joined fileOf sheetOf stepOf recordOf costStep counted counts allRight
 open-counts = tt
