@@ -17,10 +17,9 @@ use Rattle.judgement.specs.Literals.{count, code, holds, mentions}
 use Rattle.judgement.specs.Kinds.{settled, noneTrue, trueFinding, unsettledPositive, negativeFinding, someUnsettled, settledFinding, unshared, sharedFinding, dependsOn}
 use Rattle.judgement.specs.Facts.{Among, LiteralList}
 use Rattle.judgement.proofs.Laws.Scan.{which, clash, or-e}
-use Rattle.judgement.proofs.Complete.Stored.{opposite-variable}
 use Rattle.checker.specs.Marks.{markAt, IndependentMarks}
 use Rattle.checker.specs.Independent.{TellsWhich}
-use Rattle.checker.proofs.Marking.{all-next, any-next, not-opposite}
+use Rattle.checker.proofs.Marking.{all-next, any-next, opposite-variable, not-opposite}
 use Rattle.checker.proofs.Conditions.{settled-by, depends-when}
 
 -- ---- what x, the mark of the variable of c, tells

@@ -8,4 +8,5 @@ pub mod WeightedSet
 pub mod Inferences
 pub mod Close
 pub mod Accepted
+pub mod Strict
 pub mod Shown

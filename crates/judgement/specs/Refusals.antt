@@ -1,21 +1,21 @@
 -- What each refusal is told of: the last column of document 01's table of refusals, which document 02 goes on with. It is some
--- clause, or some step; which one is said by the tests (Order.antt). And when a step of kind 3 or 5 is refused by one of the
--- numbers of its kind, said as facts, without the tests.
+-- clause, or some step; which one is said by the tests (Order.antt). And when a step of kind 3, 4 or 5 is refused by one of
+-- the numbers of its kind, said as facts, without the tests.
 -- Assumes nothing.
 use Prim.Native.Nat.{ℕ, _≤_, _<_}
 use mathlib.Core.Path.{_≡_}
-use mathlib.Core.Bool.{Bool, false, _||_}
+use mathlib.Core.Bool.{Bool, true, false, _||_}
 use mathlib.Core.List.{List, [], _∷_}
 use mathlib.Core.Logic.{_≢_, _⊎_}
 use lib.ListN.{getD}
 use lib.Dec.{eqb}
-use Rattle.judgement.specs.Meaning.{variableOf, isPositive, opposite}
+use Rattle.judgement.specs.Meaning.{variableOf, isPositive, opposite, Includes}
 use Rattle.judgement.specs.Sheet.{clauses}
 use Rattle.judgement.specs.Record.{steps, step}
-use Rattle.judgement.specs.Step.{bound, literals, tail, citedCount, divisor, entryCount, weight}
+use Rattle.judgement.specs.Step.{bound, literals, stated, tail, citedCount, divisor, entryCount, weight}
 use Rattle.judgement.specs.Kinds.{independentCost}
 use Rattle.judgement.specs.Facts.{Among, In, Mentions, BeforeSteps, StepLayout, Inference}
-use Rattle.judgement.specs.Facts.{citedClause, OpenYet, PositiveYet, Free, Unsettled, Weighted}
+use Rattle.judgement.specs.Facts.{citedClause, OpenYet, PositiveYet, Free, Unsettled, Pivots, resolventOf, Weighted}
 use Rattle.judgement.specs.Integers.{IsRoundedUp}
 use Rattle.judgement.specs.Linear.{total}
 
@@ -121,6 +121,22 @@ RefusedIndependent s b number =
 -- the number is one of those of kind 3
 abbrev pub isOfIndependent : ℕ → Bool
 isOfIndependent number = eqb number 14 || eqb number 15 || eqb number 20 || eqb number 21 || eqb number 22
+
+-- ---- refusals 16, 17 and 18, said as facts of the step with the body b, which resolves the steps with the bodies x and y
+
+pub data RefusedResolution (x y b : List ℕ) (number : ℕ) : Type 0 where
+  -- x has not p, or y has not "not p"
+  no-pivot : number ≡ 16 → (Pivots x y b → ⊥) → RefusedResolution x y b number
+  -- both have, and a literal of the resolvent is missing
+  literal-missing : number ≡ 17 → Pivots x y b → (c : ℕ) → resolventOf x y b .literals c ≡ true → stated b .literals c ≡ false
+      → RefusedResolution x y b number
+  -- none is missing, and the bound is above the resolvent's, the lesser one
+  bound-above : number ≡ 18 → Pivots x y b → Includes (stated b .literals) (resolventOf x y b .literals)
+      → resolventOf x y b .bound < bound b → RefusedResolution x y b number
+
+-- the number is one of those of kind 4
+abbrev pub isOfResolution : ℕ → Bool
+isOfResolution number = eqb number 16 || eqb number 17 || eqb number 18
 
 -- ---- refusals 23 and 24, said as facts of the step with the body b
 

@@ -3,7 +3,7 @@
 
 use reference::{judge, show, Answer, Verdict};
 use samples::outcome::{Outcome, Tally};
-use samples::Sample;
+use samples::{widening, Sample};
 use std::fmt::Write;
 
 /// Longer files would spend the prover's time and show nothing more.
@@ -18,12 +18,15 @@ pub struct Case {
     pub record: Vec<u8>,
     pub answer: Answer,
     pub aimed: &'static str,
+    /// Whether a resolution among its good steps is wider than it has to be.
+    pub wider: bool,
 }
 
-/// The first small samples of the stream, as many of each outcome, `count` in all or fewer where an outcome is rare.
+/// The first small samples of the stream, as many of each outcome, `count` in all or fewer where an outcome is rare. Of some
+/// outcomes half have wider resolutions.
 pub fn choose(seed: u64, count: usize) -> Vec<Case> {
     let share = count.div_ceil(Outcome::of_short_files().count());
-    let mut met = Tally::default();
+    let (mut met, mut plain) = (Tally::default(), Tally::default());
     let mut cases = Vec::new();
     for sample in samples::stream(seed).take(TRIES) {
         if cases.len() >= count {
@@ -31,12 +34,26 @@ pub fn choose(seed: u64, count: usize) -> Vec<Case> {
         }
         let Some(case) = small(sample) else { continue };
         let outcome = Outcome::of(&case.answer);
-        if met.of(outcome) < share {
-            met.add(outcome);
-            cases.push(case);
+        let most = share - least_wider(outcome, share);
+        if met.of(outcome) == share || (!case.wider && plain.of(outcome) == most) {
+            continue;
         }
+        met.add(outcome);
+        if !case.wider {
+            plain.add(outcome);
+        }
+        cases.push(case);
     }
     cases
+}
+
+/// How many cases of an outcome have wider resolutions at least: half of those that hang on what resolutions are asked for.
+pub fn least_wider(outcome: Outcome, share: usize) -> usize {
+    match outcome {
+        Outcome::Refused(16..=19) => share / 2,
+        Outcome::Refused(_) => 0,
+        Outcome::Least | Outcome::NoneExists | Outcome::Within => share / 2,
+    }
 }
 
 fn small(sample: Sample) -> Option<Case> {
@@ -44,11 +61,13 @@ fn small(sample: Sample) -> Option<Case> {
         return None;
     }
     let answer = judge(&sample.sheet, &sample.record);
+    let wider = widening::passed(&sample, &answer) > 0;
     Some(Case {
         sheet: sample.sheet,
         record: sample.record,
         answer,
         aimed: sample.aimed,
+        wider,
     })
 }
 

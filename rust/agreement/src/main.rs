@@ -17,7 +17,11 @@ fn main() -> ExitCode {
     };
     let cases = agreement::choose(seed, count);
     let tally = agreement::tally(&cases);
-    println!("seed {seed}, {} cases, {tally}", cases.len());
+    let wider = cases.iter().filter(|case| case.wider).count();
+    println!(
+        "seed {seed}, {} cases, {wider} with wider resolutions, {tally}",
+        cases.len()
+    );
     let mut outcomes = Outcome::of_short_files();
     if let Some(missing) = outcomes.find(|outcome| tally.of(*outcome) == 0) {
         eprintln!("no case met {missing}");

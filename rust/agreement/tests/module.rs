@@ -1,6 +1,6 @@
 //! The theorems: as many of each outcome, and each with the answer that the reference checker gave.
 
-use agreement::{choose, module, tally, Case};
+use agreement::{choose, least_wider, module, tally, Case};
 use reference::{judge, show};
 use samples::examples::{example, Example};
 use samples::outcome::Outcome;
@@ -8,12 +8,13 @@ use samples::outcome::Outcome;
 fn case(name: &str) -> Case {
     let Example { sheet, record, .. } = example(name);
     let answer = judge(&sheet, &record);
-    let aimed = "an example";
+    let (aimed, wider) = ("an example", name == "R1");
     Case {
         sheet,
         record,
         answer,
         aimed,
+        wider,
     }
 }
 
@@ -32,6 +33,8 @@ fn answers_are_written_by_their_names() {
     assert_eq!(answer_of("A4"), "within 5 8 2 5");
     assert_eq!(answer_of("S1"), "within 3 11 3 7");
     assert_eq!(answer_of("C1"), "refused 19 1");
+    assert_eq!(answer_of("R1"), "accepted 3 1 9");
+    assert_eq!(answer_of("R2"), "refused 17 4");
 }
 
 /// The head takes in what the theorems are written with.
@@ -67,4 +70,25 @@ fn every_outcome_has_its_share() {
         assert_eq!(tally.of(outcome), share, "{outcome}");
     }
     assert_eq!(cases.len(), share * outcomes);
+}
+
+/// Wider resolutions are held to the definitions where an answer hangs on them, and so are others.
+#[test]
+fn half_of_the_cases_have_wider_resolutions() {
+    let share = 4;
+    let cases = choose(8, share * Outcome::of_short_files().count());
+    for outcome in Outcome::of_short_files() {
+        let of = cases
+            .iter()
+            .filter(|case| Outcome::of(&case.answer) == outcome);
+        let wider = of.filter(|case| case.wider).count();
+        println!("{outcome}: {wider} of {share}");
+        assert!(wider >= least_wider(outcome, share), "{outcome}");
+    }
+    let resolved = [Outcome::Least, Outcome::Within].into_iter();
+    let resolved = resolved.chain((16..=19).map(Outcome::Refused));
+    for outcome in resolved.chain([Outcome::NoneExists]) {
+        assert_eq!(least_wider(outcome, share), 2, "{outcome}");
+    }
+    assert!(cases.iter().any(|case| !case.wider));
 }

@@ -41,28 +41,47 @@ pub(crate) fn codes(bytes: &[u8]) -> Codes<'_> {
 /// How many codes are compared at once: the compiler makes one instruction of it.
 const LANES: usize = 8;
 
-/// Looks at every code of a list, at some of them twice. A short one is gone through in fours, a long one in eights.
-#[inline]
+/// The first N codes of a list, the last N, and N between them: all of it where it has N to 3 N. Some come more than once.
+fn thirds<const N: usize>(list: Codes<'_>) -> Option<[&[[u8; 2]; N]; 3]> {
+    let (first, rest) = list.split_first_chunk()?;
+    let between = list.get(N.min(rest.len())..)?.first_chunk()?;
+    Some([first, between, list.last_chunk()?])
+}
+
+/// Looks at every code of a list, at some of them more than once. Where a loop over a short list ends cannot be guessed: so up
+/// to 24 codes there is none, and lists of many lengths take the same way. All of it is put into the caller, which then keeps
+/// in a register what the looks gather.
+#[inline(always)]
 pub(crate) fn each(list: Codes, look: impl FnMut(usize)) {
-    if list.len() < 16 {
-        by::<4>(list, look);
-    } else {
-        by::<8>(list, look);
+    match list.len() {
+        0 => {}
+        1..=3 => each_of_thirds::<1>(list, look),
+        4..=12 => each_of_thirds::<4>(list, look),
+        13..=24 => each_of_thirds::<8>(list, look),
+        _ => each_of_eights(list, look),
     }
 }
 
-/// Looks at N codes at once, and at the end at the last N, whether looked at or not: where a loop over single codes ends cannot
-/// be guessed, and where one over several ends mostly can.
-#[inline]
-fn by<const N: usize>(list: Codes, mut look: impl FnMut(usize)) {
-    let mut all = |codes: Codes| codes.iter().for_each(|&stored| look(code(stored)));
-    let Some(last) = list.last_chunk::<N>() else {
-        return all(list);
-    };
-    for several in list[..list.len() - 1].as_chunks::<N>().0 {
-        all(several);
+#[inline(always)]
+fn each_of_thirds<const N: usize>(list: Codes, mut look: impl FnMut(usize)) {
+    let mut all = |codes: &[[u8; 2]; N]| codes.iter().for_each(|&stored| look(code(stored)));
+    if let Some([first, between, last]) = thirds(list) {
+        all(first);
+        all(between);
+        all(last);
     }
-    all(last);
+}
+
+/// Looks at eight codes at once, and at the end at the last eight, whether looked at or not.
+#[inline(always)]
+fn each_of_eights(list: Codes, mut look: impl FnMut(usize)) {
+    let mut all = |codes: &[[u8; 2]; 8]| codes.iter().for_each(|&stored| look(code(stored)));
+    for eight in list[..list.len() - 1].as_chunks().0 {
+        all(eight);
+    }
+    if let Some(last) = list.last_chunk() {
+        all(last);
+    }
 }
 
 /// The variables rise strictly from 1 to n at most.

@@ -1,5 +1,5 @@
-//! Kind 4, in two ways. Each tells whether the three lists are a resolution; which refusal applies where they are not is
-//! looked for afterwards, since a fault ends the judgement.
+//! Kind 4, in two ways. Each tells whether a step holds what is left of its premises; which refusal applies where it does not
+//! is looked for afterwards, since a fault ends the judgement.
 
 use crate::read::{code, each, Codes, CODES};
 
@@ -8,31 +8,33 @@ pub trait Resolve {
     /// What is kept from step to step.
     fn new() -> Self;
 
-    /// a holds "p true", b holds "p false", and d is the rest of both.
+    /// a holds "p true", b holds "p false", and d holds the rest of both. It may hold more, the pivot's own literals too.
     fn resolves(&mut self, a: Codes, b: Codes, pivot: usize, d: Codes) -> bool;
 }
 
-/// Goes through the three lists side by side.
+/// Goes through d beside a and b. There is no branch for a literal: whether it is of a, of b, of both or of none cannot be
+/// guessed. So each has to wait for the one before it; and what is before the pivot and what is after it are gone through from
+/// the two ends, since these do not wait for each other.
 pub struct Merge;
 
-/// What is left of d, and how many literals of the pivot were met.
-struct Rest<'a> {
-    d: std::slice::Iter<'a, [u8; 2]>,
-    pivot: usize,
-    pivots: usize,
+/// How many literals d holds of the start of a, and of b.
+fn from_start(d: Codes, a: Codes, b: Codes) -> (usize, usize) {
+    let (mut i, mut j) = (0, 0);
+    for literal in d {
+        i += usize::from(a.get(i) == Some(literal));
+        j += usize::from(b.get(j) == Some(literal));
+    }
+    (i, j)
 }
 
-impl Rest<'_> {
-    /// Whether the next literal of a, of b or of both is d's next one, or the pivot's where that has to stand.
-    fn take(&mut self, next: usize, in_a: bool, in_b: bool) -> bool {
-        if next / 2 == self.pivot {
-            self.pivots += 1;
-            let positive = next.is_multiple_of(2);
-            in_a == positive && in_b != positive
-        } else {
-            self.d.next().is_some_and(|&stored| code(stored) == next)
-        }
+/// Where the literals begin, at the end of a and of b, that d holds.
+fn from_end(d: Codes, a: Codes, b: Codes) -> (usize, usize) {
+    let (mut i, mut j) = (a.len(), b.len());
+    for literal in d.iter().rev() {
+        i -= usize::from(a[..i].last() == Some(literal));
+        j -= usize::from(b[..j].last() == Some(literal));
     }
+    (i, j)
 }
 
 impl Resolve for Merge {
@@ -41,57 +43,44 @@ impl Resolve for Merge {
     }
 
     fn resolves(&mut self, a: Codes, b: Codes, pivot: usize, d: Codes) -> bool {
-        let mut rest = Rest {
-            d: d.iter(),
-            pivot,
-            pivots: 0,
+        let (up, down) = (2 * pivot, 2 * pivot + 1);
+        let (before, rest) = d.split_at(d.partition_point(|&stored| code(stored) < up));
+        // A literal of the pivot that d holds stands for none of a and b.
+        let after = match rest {
+            [stored, after @ ..] if code(*stored) <= down => after,
+            _ => rest,
         };
-        let (mut i, mut j) = (0, 0);
-        while let (Some(&x), Some(&y)) = (a.get(i), b.get(j)) {
-            let (x, y) = (code(x), code(y));
-            let next = x.min(y);
-            i += usize::from(x == next);
-            j += usize::from(y == next);
-            if !rest.take(next, x == next, y == next) {
-                return false;
-            }
-        }
-        let (mut from_a, mut from_b) = (a[i..].iter(), b[j..].iter());
-        from_a.all(|&stored| rest.take(code(stored), true, false))
-            && from_b.all(|&stored| rest.take(code(stored), false, true))
-            && rest.pivots == 2
-            && rest.d.len() == 0
+        let (i, j) = from_start(before, a, b);
+        let (k, l) = from_end(after, a, b);
+        // What d does not hold has to be the pivot alone.
+        let is_left = |list: Codes, wanted| matches!(list, &[stored] if code(stored) == wanted);
+        is_left(&a[i..k], up) && is_left(&b[j..l], down)
     }
 }
 
-/// Marks the codes of d, then looks up those of a and b. Each step's marks are above those of the steps before it, so that none
-/// has to be taken away. There is no early exit and no branch at the pivot: a fault ends it all, and where the pivot stands
-/// cannot be guessed. A second look at a code changes nothing.
+/// Marks the codes of d, then looks up those of a and b. There is no early exit and no branch at the pivot: a fault ends it
+/// all, and where the pivot stands cannot be guessed. A second look at a code changes nothing.
+///
+/// A step's mark is its number, which is above those of the steps before it, so that none of these has all its ones. So the
+/// ones that all marks of a premise have are this step's number where d holds all of its literals, and else are not. Two bits
+/// more are set in every mark; those of the pivot's two literals lack one each, and so the same ones tell whether it is there.
 pub struct Marks {
     marks: [u32; CODES],
-    /// The least mark of the last step, an even number. A record of k steps has 8 k bytes at least, so that two marks for each
-    /// fit into 31 bits.
+    /// The number of the last step. A record of k steps has 8 k bytes at least, so that it is below 2^29.
     last: u32,
 }
 
-impl Marks {
-    fn mark(&mut self, code: usize) -> &mut u32 {
-        &mut self.marks[code % CODES]
-    }
+/// The bits that the marks of "p true" and of "p false" lack.
+const UP: u32 = 1 << 30;
+const DOWN: u32 = 1 << 31;
 
-    /// Gives the codes of a premise the mark t, and the sum of what their marks were above it: 1 for one of d, 0 for one of d
-    /// that the other premise has too, and 2^31 at least for another. The pivot's counts as one of d, if it is there.
-    fn premise(&mut self, list: Codes, pivot: usize, t: u32) -> (bool, u64) {
-        *self.mark(pivot) = t + 1;
-        let mut sum = 0;
-        each(list, |code| {
-            let mark = self.mark(code);
-            sum += u64::from(mark.wrapping_sub(t));
-            *mark = t;
-        });
-        let found = *self.mark(pivot) == t;
-        *self.mark(pivot) = 0;
-        (found, sum)
+impl Marks {
+    /// The ones that the marks of all literals have.
+    #[inline(always)]
+    fn common(&self, list: Codes) -> u32 {
+        let mut common = !0;
+        each(list, |code| common &= self.marks[code % CODES]);
+        common
     }
 }
 
@@ -109,13 +98,13 @@ impl Resolve for Marks {
         if !(2..CODES + 2).contains(&up) {
             return false;
         }
-        self.last += 2;
-        let t = self.last;
-        each(d, |code| *self.mark(code) = t + 1);
-        let (in_a, of_a) = self.premise(a, up, t);
-        let (in_b, of_b) = self.premise(b, down, t);
-        // All of a and b but the pivot are in d, and each of d is in one of them.
-        in_a && in_b && of_a + of_b == d.len() as u64 + 2
+        self.last += 1;
+        let mark = self.last | UP | DOWN;
+        each(d, |code| self.marks[code % CODES] = mark);
+        // After those of d, which may hold the pivot too.
+        self.marks[up % CODES] = mark ^ UP;
+        self.marks[down % CODES] = mark ^ DOWN;
+        self.common(a) == mark ^ UP && self.common(b) == mark ^ DOWN
     }
 }
 

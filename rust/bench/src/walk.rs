@@ -103,13 +103,15 @@ impl<'a, R: Resolve> Walk<'a, R> {
                 refusal::PIVOT
             });
         }
-        if d.bound != a.bound.min(b.bound) {
+        if d.bound > a.bound.min(b.bound) {
             return Err(refusal::LESSER_BOUND);
         }
         Ok(())
     }
 
-    /// The cost clause of a step that was found good. Its length is in its body, so that the pair's is not needed.
+    /// The cost clause of a step that was found good. Its length is in its body, so that the pair's is not needed. Put into
+    /// the callers, since a resolution has two of it.
+    #[inline(always)]
     fn earlier(&self, k: usize) -> CostClause<'a> {
         let (offset, _) = pair(self.record.pairs[k - 1]);
         let bytes = &self.record.bytes[offset..];

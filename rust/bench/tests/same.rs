@@ -46,6 +46,7 @@ fn on_longer_records() {
         Mix::Mixed,
         Mix::Resolution,
         Mix::Long,
+        Mix::LongOf(Kind::Resolution),
         Mix::LongOf(Kind::Linear),
     ] {
         let sample = samples::long(7, 300_000, mix);
@@ -57,6 +58,14 @@ fn on_longer_records() {
             same(&sample.sheet, &damaged, "long, one bit changed");
             damaged[place] ^= 1;
         }
+    }
+}
+
+#[test]
+fn on_longer_records_with_wider_resolutions() {
+    for mix in [Mix::Mixed, Mix::Resolution, Mix::LongOf(Kind::Resolution)] {
+        let sample = samples::long_widened(7, 100_000, mix);
+        assert!(same(&sample.sheet, &sample.record, "long, widened").accepts());
     }
 }
 

@@ -8,7 +8,7 @@ use samples::draft::{overwrite, read_u32, read_u64, Body, Draft, Files};
 use samples::examples::{examples, Example};
 use samples::outcome::{Outcome, Tally};
 use samples::weights::largest;
-use samples::{long_with_weights, Sample};
+use samples::{long_widened, long_with_weights, widening, Sample, WIDENED};
 
 /// How many samples are compared, unless COMPARE_COUNT says otherwise; from which seed, unless COMPARE_SEED does.
 const COUNT: usize = 200_000;
@@ -83,28 +83,69 @@ fn enough(outcome: Outcome, count: usize) -> usize {
 fn on_generated_and_damaged_records() {
     let count = setting("COMPARE_COUNT", COUNT);
     let seed = setting("COMPARE_SEED", SEED);
-    let mut met = Tally::default();
-    for (
-        i,
-        Sample {
+    let (mut met, mut wider) = (Tally::default(), Tally::default());
+    for (i, sample) in samples::stream(seed).take(count).enumerate() {
+        let Sample {
             sheet,
             record,
             aimed,
-        },
-    ) in samples::stream(seed).take(count).enumerate()
-    {
-        let outcome = same(&sheet, &record, aimed);
+        } = &sample;
+        let outcome = same(sheet, record, aimed);
         met.add(outcome);
+        if widening::passed(&sample, &judge(sheet, record)) > 0 {
+            wider.add(outcome);
+        }
         // a step number in and around the record's range; every tenth sample, since showing judges again, and of those with a
         // gap all
         if i % 10 == 0 || outcome == Outcome::Within {
-            same_part(&sheet, &record, (i / 10 % 12) as u32, aimed);
+            same_part(sheet, record, (i / 10 % 12) as u32, aimed);
         }
     }
     println!("seed {seed}, {count} samples, {met}");
+    println!("with wider resolutions, {wider}");
     for outcome in Outcome::of_short_files() {
         let few = enough(outcome, count);
         assert!(met.of(outcome) >= few, "under {few} met {outcome}");
+        let few = enough_wider(outcome, count);
+        assert!(wider.of(outcome) >= few, "under {few} met {outcome}, wider");
+    }
+}
+
+/// The same of those with a wider resolution among their good steps, of which there are none where no step is come to.
+fn enough_wider(outcome: Outcome, count: usize) -> usize {
+    match outcome {
+        Outcome::Refused(2..=7 | 10 | 11) => 0,
+        Outcome::Refused(16..=19) => (count / 400).max(1),
+        Outcome::Refused(_) => 1,
+        Outcome::Least | Outcome::NoneExists | Outcome::Within => (count / 400).max(1),
+    }
+}
+
+/// Every literal of the resolutions of widened records left out, turned round or added, and bounds about the lesser one.
+#[test]
+fn on_resolutions_one_literal_or_bound_off() {
+    let mut met = Tally::default();
+    let widened = samples::stream(15).filter(|sample| sample.aimed == WIDENED);
+    for Sample { sheet, record, .. } in widened.take(120) {
+        let draft = Draft::read(&Files { sheet, record }).expect("both files are good");
+        // Each of 1,024 variables gives two records for each resolution.
+        if draft.variables() > 40 {
+            continue;
+        }
+        for (place, changed) in widening::one_off(&draft) {
+            let Files { sheet, record } = changed.files();
+            met.add(same(
+                &sheet,
+                &record,
+                &format!("step {} one off", place + 1),
+            ));
+        }
+    }
+    println!("{met}");
+    let refused = [17, 18, 19].map(Outcome::Refused);
+    let answers = [Outcome::Least, Outcome::NoneExists, Outcome::Within];
+    for outcome in refused.into_iter().chain(answers) {
+        assert!(met.of(outcome) > 100, "few of {outcome}");
     }
 }
 
@@ -139,6 +180,8 @@ fn on_longer_records() {
         on_a_longer_record(samples::long(seed, size, mix));
     }
     on_a_longer_record(long_with_weights(8, 300_000));
+    on_a_longer_record(long_widened(9, 300_000, Mix::Mixed));
+    on_a_longer_record(long_widened(10, 300_000, Mix::Resolution));
 }
 
 fn on_a_longer_record(sample: Sample) {
@@ -163,6 +206,7 @@ fn on_longer_records_with_one_byte_changed() {
         .to_vec();
     // Shorter, because the reference checker takes its time over weights.
     long.push(long_with_weights(12, 12_000));
+    long.push(long_widened(13, 50_000, Mix::Resolution));
     for Sample { sheet, record, .. } in long {
         let mut changed = record.clone();
         for i in 0..CHANGES {

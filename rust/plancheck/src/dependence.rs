@@ -184,7 +184,7 @@ fn added(step: &Step, literals: &[Literal], settled: &str) -> (Vec<Literal>, Str
     (all, mend)
 }
 
-fn joined<T>(items: &[T], words: impl Fn(&T) -> String) -> String {
+pub(crate) fn joined<T>(items: &[T], words: impl Fn(&T) -> String) -> String {
     items.iter().map(words).collect::<Vec<_>>().join(", ")
 }
 
@@ -192,6 +192,6 @@ fn name(literal: Literal) -> String {
     listed(&[literal]).trim_start().to_string()
 }
 
-fn variable(literal: &Literal) -> String {
+pub(crate) fn variable(literal: &Literal) -> String {
     format!("variable {}", literal.variable())
 }

@@ -4,7 +4,7 @@ use crate::places::{cited_lines, clause_line, cost, pair_line, step_line};
 use crate::record::{Record, ASSIGNMENT};
 use crate::refusals::sentence;
 use crate::sheet::Sheet;
-use crate::{dependence, text, weights};
+use crate::{dependence, resolution, text, weights};
 use proved::{Answer, Verdict, NONE};
 
 /// The lines for the answer that the proved checker gave to these files.
@@ -112,6 +112,7 @@ fn in_claim_or_step(sheet: &Sheet, record: &Record, answer: &Answer) -> Vec<Stri
             }
             let mended = dependence::lines(sheet, record, answer);
             let mended = mended.or_else(|| weights::lines(sheet, record, answer));
+            let mended = mended.or_else(|| resolution::lines(sheet, record, answer));
             lines.extend(mended.unwrap_or_else(|| cited_lines(sheet, record, place)));
             lines
         }

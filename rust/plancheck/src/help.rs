@@ -39,6 +39,10 @@ Prints the proved checker's line, what it says in plain words, and the place tha
 and the clauses, costs or steps that it cites. Where an independent set is none, the clause at fault comes first, with what would
 mend the step. Exit codes as with judge.
 
+A resolution has to hold every literal of the two steps that it cites but the pivot's, and its bound may not be above the lesser
+of theirs. It may hold further literals, and its bound may be below. Where the pivot or a literal is missing, a line below the
+cited step says so; a mend comes last, unless the two steps do not resolve at all.
+
 For a weighted step a table shows how its bound comes about. A variable's remainder begins as the divisor times its
 cost; each cited clause takes its weight away where it has the variable positive, and adds it where it has it negative. A variable adds its remainder where it
 is settled true, nothing where it is settled false, and where it is unsettled its remainder if that is below 0. A cited clause adds

@@ -16,6 +16,7 @@ pub mod pack;
 pub mod places;
 pub mod record;
 pub mod refusals;
+pub mod resolution;
 pub mod sheet;
 pub mod stats;
 pub mod steps;

@@ -3,6 +3,9 @@
 use planner::{MOST_CLAUSES, MOST_VARIABLES};
 use proved::{Answer, Verdict};
 
+/// What a mend leaves to do.
+pub const ANEW: &str = "after a mend, work out anew the steps that rest on this one";
+
 /// What kind of thing a refusal's place is.
 #[derive(Clone, Copy, Debug, PartialEq, Eq)]
 pub enum Place {
@@ -73,8 +76,8 @@ fn about_step(number: u64, place: u64) -> String {
         22 => format!("Shared paddle: step {place} cites a clause with an unsettled variable that a clause cited before it has too, so that one cost can do for both."),
         15 => format!("Independent bound: the bound of step {place} is not the settled costs plus the least cost of each cited clause."),
         16 => format!("Pivot: the first step that step {place} cites lacks the pivot as a positive literal, or the second lacks it as a negative one."),
-        17 => format!("Resolvent: the literals of step {place} are not those that are left of the two cited steps, or a variable stands there both ways."),
-        18 => format!("Lesser bound: the bound of step {place} is not the lesser of the two bounds that it cites."),
+        17 => format!("Resolvent: step {place} lacks a literal that one of the two cited steps has beside the pivot."),
+        18 => format!("Lesser bound: the bound of step {place} is above the lesser of the two bounds that it cites."),
         23 => format!("Weights: step {place} divides by 0, or gives a clause the weight 0, where 1 is the least."),
         24 => format!("Linear bound: the bound of step {place} is not the least number that gives its total or more when it is multiplied by its divisor."),
         _ => format!("Close: step {place} is the last and still has literals, or the claim is none and its bound is not none."),

@@ -4,6 +4,7 @@
 
 use crate::places::{clause_line, MOST};
 use crate::record::Record;
+use crate::refusals::ANEW;
 use crate::sheet::Sheet;
 use crate::steps;
 use crate::text::amount;
@@ -37,7 +38,7 @@ pub fn lines(sheet: &Sheet, record: &Record, answer: &Answer) -> Option<Vec<Stri
         24 => weighted.bound_lines(step.bound)?,
         _ => return None,
     };
-    lines.push("after a mend, work out anew the steps that rest on this one".to_string());
+    lines.push(ANEW.to_string());
     Some(lines)
 }
 

@@ -12,7 +12,8 @@ pub enum Reason {
     Cost,
     /// Kind 3: independent clauses add their least costs.
     Independent { clauses: Vec<u32> },
-    /// Kind 4: `positive` holds the pivot as a positive literal, `negative` as a negative one.
+    /// Kind 4: `positive` holds the pivot as a positive literal, `negative` as a negative one. The step holds what is left of
+    /// both at least, and its bound is the lesser of theirs at most.
     Resolution {
         positive: u32,
         negative: u32,
@@ -110,7 +111,8 @@ impl<'a> Certificate<'a> {
         })
     }
 
-    /// Resolves two earlier steps, given in either order, on the pivot variable.
+    /// Resolves two earlier steps, given in either order, on the pivot variable. The step says all that they bear out: with
+    /// further literals or a lesser bound it would be accepted too, but be worth less to later steps.
     pub fn resolve(&mut self, first: u32, second: u32, pivot: usize) -> Option<u32> {
         let up = Literal::positive(pivot);
         let swapped = self.step(first).literals.binary_search(&up).is_err();

@@ -1,4 +1,5 @@
-//! The reference checker: document 01, with changes 1 to 3 of document 02, in the plainest Rust there is.
+//! The reference checker: document 01, with changes 1, 2, 3 and 5 of document 02, in the plainest Rust there is.
+//! Change 4 alters no answer.
 //!
 //! It exists to be compared with the proved checker, so it shares nothing with it and prefers sets, copies and
 //! wide numbers to speed. Each function is meant to be held beside one row of document 01's refusal table,
@@ -14,7 +15,7 @@
 //! | assignment, satisfies | arrangement, keeps |
 //! | cost clause (001, definition 2) | statement |
 //! | independent set (001, 5.1.1) | kind 3 |
-//! | cost resolution (001, definition 8) | kind 4 |
+//! | cost resolution (001, definition 8), with weakening | kind 4 |
 //! | weighted clauses (001, 5.1.2) | kind 5 |
 //!
 //! There are four kinds of answer, and a [`Verdict`] names them: two acceptances, "within", and the refusals.

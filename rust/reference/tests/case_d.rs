@@ -51,6 +51,29 @@ fn an_independent_set_gives_the_bound_of_steps_1_to_3() {
     assert_eq!(answer, accepted(11, 3, 17));
 }
 
+/// Step 9 holds "2 shut" as well, which step 14 resolves away, and step 10 "5 open", which step 14 has anyway. The
+/// bounds "none" of steps 9 and 13 come down to the claim.
+#[test]
+fn wider_statements_on_the_way_are_accepted() {
+    let mut steps = steps_d();
+    steps[8] = resolution_step(&[neg(2), pos(3), neg(6)], 11, 7, 8, 1);
+    steps[9] = resolution_step(&[neg(2), pos(5), neg(6)], 11, 9, 6, 3);
+    steps[12] = resolution_step(&[pos(2), pos(5), neg(6)], 11, 11, 12, 3);
+    let answer = judge(&sheet_d(), &record(11, &[ASSIGNMENT], &steps));
+    assert_eq!(answer, accepted(11, 3, 17));
+}
+
+/// Step 5 is one of the last step's premises: what it holds besides "5 shut" is still there at the end.
+#[test]
+fn damaged_a_wider_statement_that_the_last_step_lacks_a_literal_of() {
+    let mut steps = steps_d();
+    steps[4] = resolution_step(&[neg(5), pos(6)], 11, 4, 3, 2);
+    let judged = |steps: &[Vec<u8>]| judge(&sheet_d(), &record(11, &[ASSIGNMENT], steps));
+    assert_eq!(judged(&steps), refused(17, 17));
+    steps[16] = resolution_step(&[pos(6)], 11, 16, 5, 5);
+    assert_eq!(judged(&steps), refused(19, 17));
+}
+
 /// Variables 1, 2, 4 and 5 satisfy every clause too, at cost 12.
 #[test]
 fn a_dearer_assignment_is_within_1() {

@@ -1,5 +1,5 @@
 //! The lettered cases of document 01, but for D, which has its own file. C3 and C4 have their numbers from document
-//! 02's change 1, and A4 is within by its change 3.
+//! 02's change 1, and A4 is within by its change 3. A7 and E are as they were before its change 5.
 
 mod common;
 

@@ -1,4 +1,5 @@
-//! Refusals 8, 9, 12, 13 and 16 to 19: the steps, but for independent sets and weighted clauses.
+//! Refusals 8, 9, 12, 13 and 16 to 19: the steps, but for independent sets and weighted clauses. Resolutions that state
+//! less than their resolvents have their own file.
 
 mod common;
 
@@ -256,12 +257,14 @@ fn refusal_16_a_pivot_that_is_no_variable() {
     }
 }
 
+/// The resolvent is {1 open}, and of the nine lists over two variables six are without it.
 #[test]
-fn refusal_17_literals_that_are_not_the_resolvent() {
-    let (p1, n1, p2, n2) = (pos(1), neg(1), pos(2), neg(2));
-    let lists: [&[u16]; 6] = [&[], &[n1], &[p2], &[n2], &[p1, p2], &[p1, n2]];
+fn refusal_17_a_literal_of_the_resolvent_is_missing() {
+    let mut lists = every_list(2);
+    lists.retain(|codes| !codes.contains(&pos(1)));
+    assert_eq!(lists.len(), 6);
     for codes in lists {
-        let body = resolution_step(codes, NONE, 1, 2, 2);
+        let body = resolution_step(&codes, NONE, 1, 2, 2);
         assert_eq!(judge_with(3, body), refused(17, 3));
     }
 }
@@ -270,19 +273,11 @@ fn refusal_17_literals_that_are_not_the_resolvent() {
 #[test]
 fn refusal_17_a_variable_both_ways() {
     let clauses: [&[u16]; 2] = [&[pos(1), pos(2)], &[neg(1), neg(2)]];
-    let lists: [&[u16]; 6] = [
-        &[],
-        &[pos(1)],
-        &[neg(1)],
-        &[pos(2)],
-        &[neg(2)],
-        &[pos(1), neg(2)],
-    ];
-    for codes in lists {
+    for codes in every_list(2) {
         let steps = [
             clause_step(clauses[0], 1),
             clause_step(clauses[1], 2),
-            resolution_step(codes, NONE, 1, 2, 1),
+            resolution_step(&codes, NONE, 1, 2, 1),
         ];
         let answer = judge(&sheet(&[3, 5], &clauses), &record(3, &[0x01], &steps));
         assert_eq!(answer, refused(17, 3));
@@ -303,16 +298,20 @@ fn refusal_8_a_resolvent_written_with_a_variable_both_ways() {
 }
 
 #[test]
-fn refusal_18_a_bound_that_is_not_the_lesser() {
+fn refusal_18_a_bound_above_the_lesser() {
     // Step 5 has premises with "none" and 3.
-    for bound in [0, 2, 4, 6, NONE - 1, NONE] {
+    for bound in [4, 6, 3 + (1 << 32), NONE - 1, NONE] {
         let body = resolution_step(&[], bound, 3, 4, 1);
         assert_eq!(judge_with(5, body), refused(18, 5));
     }
-    // Step 3 has "none" in both.
-    for bound in [0, 3, NONE - 1] {
+    // Step 3 has "none" in both, and no bound is above that. A low one is the lesser of step 5's premises.
+    for bound in [3, NONE - 1, NONE] {
         let body = resolution_step(&[pos(1)], bound, 1, 2, 2);
-        assert_eq!(judge_with(3, body), refused(18, 3));
+        assert_eq!(judge_with(3, body), accepted(3, 1, 5));
+    }
+    for bound in [0, 2] {
+        let body = resolution_step(&[pos(1)], bound, 1, 2, 2);
+        assert_eq!(judge_with(3, body), refused(18, 5));
     }
 }
 
@@ -336,19 +335,29 @@ fn refusal_18_the_lesser_may_be_either_premises() {
                 &record(0, &[0], &[&premises[..], &[resolved]].concat()),
             )
         };
-        assert_eq!(judged(lesser), refused(19, 3));
-        for wrong in [0, lesser - 1, lesser + 1, 9, 10, 15, NONE] {
+        for passing in [0, lesser - 1, lesser] {
+            assert_eq!(judged(passing), refused(19, 3));
+        }
+        for wrong in [lesser + 1, 9, 10, 15, NONE] {
             assert_eq!(judged(wrong), refused(18, 3));
         }
     }
 }
 
+/// The resolvent of {1, 2 open} and {2 shut} on 2 is {1 open}, and the lesser bound is 5.
 #[test]
 fn refusals_16_17_18_in_rising_order() {
-    let all_three = resolution_step(&[pos(2)], 0, 1, 1, 2);
-    assert_eq!(judge_with(3, all_three), refused(16, 3));
-    let last_two = resolution_step(&[pos(2)], 0, 1, 2, 2);
-    assert_eq!(judge_with(3, last_two), refused(17, 3));
+    let judged = |codes: &[u16], bound, b| {
+        judge_steps(&[
+            clause_step(&[pos(1), pos(2)], 1),
+            cost_step(&[neg(2)], 5),
+            resolution_step(codes, bound, 1, b, 2),
+        ])
+    };
+    assert_eq!(judged(&[pos(2)], 6, 1), refused(16, 3));
+    assert_eq!(judged(&[pos(2)], 6, 2), refused(17, 3));
+    assert_eq!(judged(&[pos(1)], 6, 2), refused(18, 3));
+    assert_eq!(judged(&[pos(1)], 5, 2), refused(19, 3));
 }
 
 #[test]

@@ -64,6 +64,17 @@ fn kind_5_shows_the_literals_in_the_step() {
     assert_part(show(&sheet, &record, 2), &record, 63..63);
 }
 
+/// Step 3 starts at 101 and has one literal more than its resolvent; it is shown with the rest.
+#[test]
+fn a_wider_statement_shows_all_its_literals() {
+    let (sheet, record) = (sheet_a(), record(3, &[0x01], &steps_a_wider()));
+    assert_eq!(judge(&sheet, &record), accepted(3, 1, 6));
+    assert_part(show(&sheet, &record, 3), &record, 113..117);
+    assert_eq!(show(&sheet, &record, 3), two_bytes(&[pos(1), pos(2)]));
+    assert_part(show(&sheet, &record, 4), &record, 139..141);
+    assert_part(show(&sheet, &record, 6), &record, 177..177);
+}
+
 /// The sheet's clauses stand in another order than the steps that copy them.
 #[test]
 fn kind_1_shows_the_clause_that_it_cites() {

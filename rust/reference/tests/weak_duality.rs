@@ -27,12 +27,6 @@ fn random_literals(numbers: &mut Numbers, variable_count: usize) -> Vec<u16> {
     chosen.collect()
 }
 
-/// The literal is true under the assignment, in which variable v is bit v - 1.
-fn is_true(code: u16, assignment: u32) -> bool {
-    let value = assignment >> (code / 2 - 1) & 1 == 1;
-    value == code.is_multiple_of(2)
-}
-
 impl Case {
     /// At least one clause is cited.
     fn random(numbers: &mut Numbers) -> Case {
@@ -209,24 +203,12 @@ fn random_weights_close_at_the_least_cost_and_above_it_never() {
     assert!(seen.closing > 100 && seen.within > 1_000);
 }
 
-/// The lists of literals over variables 1 and 2: each positive, negative or not there.
-fn every_list() -> Vec<Vec<u16>> {
-    let signs = |variable| [None, Some(pos(variable)), Some(neg(variable))];
-    let mut lists = vec![];
-    for first in signs(1) {
-        for second in signs(2) {
-            lists.push([first, second].into_iter().flatten().collect());
-        }
-    }
-    lists
-}
-
 /// All sheets of two clauses over variables of cost 1 and 2, all lists of the step and all weights from 1 to 4.
 fn every_case(divisor: u16) -> Vec<Case> {
     let mut cases = vec![];
-    for first in every_list() {
-        for second in every_list() {
-            for codes in every_list() {
+    for first in every_list(2) {
+        for second in every_list(2) {
+            for codes in every_list(2) {
                 for weights in 0..16 {
                     cases.push(Case {
                         costs: vec![1, 2],

@@ -182,6 +182,41 @@ fn the_last_step_decides_over_the_gap() {
     assert_eq!(judged(&steps, 8, 0b11), within(5, 8, 2, 7));
 }
 
+/// The last step of record A may have any bound up to 3, and the gap is taken from the bound that it has.
+#[test]
+fn a_last_bound_below_the_lesser_leaves_a_greater_gap() {
+    let judged = |bound, claim, bits| {
+        let mut steps = steps_a();
+        steps[4] = resolution_step(&[], bound, 3, 4, 1);
+        judge(&sheet_a(), &record(claim, &[bits], &steps))
+    };
+    for bound in 0..3 {
+        assert_eq!(judged(bound, 3, 0b01), within(3 - bound, 3, 1, 5));
+        assert_eq!(judged(bound, 8, 0b11), within(8 - bound, 8, 2, 5));
+        assert_eq!(judged(bound, NONE, 0b00), refused(19, 5));
+    }
+    assert_eq!(judged(3, 3, 0b01), accepted(3, 1, 5));
+    assert_eq!(judged(3, 8, 0b11), within(5, 8, 2, 5));
+}
+
+/// Both premises have "none". Any other bound is a cost, however great, and the claim "none" is not one.
+#[test]
+fn refusal_19_the_claim_none_with_a_last_bound_below_none() {
+    let sheet = sheet(&[7], &[&[pos(1)], &[neg(1)]]);
+    let judged = |bound| {
+        let steps = [
+            clause_step(&[pos(1)], 1),
+            clause_step(&[neg(1)], 2),
+            resolution_step(&[], bound, 1, 2, 1),
+        ];
+        judge(&sheet, &record(NONE, &[0], &steps))
+    };
+    assert_eq!(judged(NONE), accepted(NONE, 0, 3));
+    for bound in [0, 7, NONE - 1] {
+        assert_eq!(judged(bound), refused(19, 3));
+    }
+}
+
 /// Nine variables, so the assignment has two bytes; their costs tell which ones are true.
 #[test]
 fn a_gap_that_is_the_whole_claim() {
@@ -239,7 +274,7 @@ fn a_fault_before_the_close_is_told_and_no_gap() {
     assert_fault(121, &[4], refused(13, 4));
     assert_fault(107, &four_bytes(&[1, 1]), refused(16, 3));
     assert_fault(105, &two_bytes(&[neg(1)]), refused(17, 3));
-    assert_fault(135, &[2], refused(18, 5));
+    assert_fault(135, &[4], refused(18, 5));
     assert_eq!(judge(&sheet[..35], &whole), refused(3, 2));
     assert_eq!(judge(&[], &whole), refused(2, 0));
 }

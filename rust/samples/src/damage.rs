@@ -14,11 +14,11 @@ mod pairs;
 mod plans;
 mod resolutions;
 mod statements;
+mod widened;
 
 use crate::draft::{code_bytes, codes, Body, Draft, Files, Table};
 use crate::outcome::Outcome;
 use crate::random::Random;
-use linear::order::Faults;
 use order::{Bound, Clauses};
 
 /// How a fault is made; nothing comes back when it does not apply to these files.
@@ -36,8 +36,10 @@ pub enum Way {
     Files(fn(&mut Files, &mut Random) -> Option<()>),
     /// Has a step of kind 3 cite clauses made for it.
     Cite(Clauses, Bound),
+    /// Makes these faults in steps of kind 4.
+    Resolve(resolutions::order::Faults),
     /// Makes these faults in steps of kind 5.
-    Weigh(Faults),
+    Weigh(linear::order::Faults),
 }
 
 #[derive(Clone, Copy)]
@@ -83,7 +85,7 @@ impl Damage {
 }
 
 /// Every fault with an aim, in groups.
-pub const AIMED: [&[Damage]; 14] = [
+pub const AIMED: [&[Damage]; 16] = [
     heads::HEADS,
     pairs::PAIRS,
     forms::FORMS,
@@ -94,6 +96,8 @@ pub const AIMED: [&[Damage]; 14] = [
     independence::INDEPENDENCE,
     order::ORDER,
     resolutions::RESOLUTIONS,
+    resolutions::order::RESOLUTION_ORDER,
+    widened::WIDENED,
     linear::LINEAR,
     linear::bounds::BOUNDS,
     linear::order::LINEAR_ORDER,
@@ -162,18 +166,28 @@ fn to_draft(way: Way, draft: &mut Draft, random: &mut Random) -> Option<()> {
             Some(())
         }
         Way::Cite(clauses, bound) => order::cite(clauses, bound, draft, random),
+        Way::Resolve(faults) => resolutions::order::resolve(faults, draft, random),
         Way::Weigh(faults) => linear::order::weigh(faults, draft, random),
         Way::SheetPairs(_) | Way::RecordPairs(_) | Way::Files(_) => None,
     }
 }
 
 /// The places of the steps of a kind, from a random one on: many faults need some feature, and try one after the other.
-fn places(kind: u8, draft: &Draft, random: &mut Random) -> Vec<usize> {
+pub(crate) fn places(kind: u8, draft: &Draft, random: &mut Random) -> Vec<usize> {
     let count = draft.steps.len();
     let first = random.below(count.max(1));
     let all = (0..count).map(|turn| (first + turn) % count);
     all.filter(|place| draft.steps[*place].first() == Some(&kind))
         .collect()
+}
+
+/// The place of some step of a kind, and that of one behind it.
+fn two_places(kind: u8, draft: &Draft, random: &mut Random) -> Option<[usize; 2]> {
+    let mut places = places(kind, draft, random);
+    places.sort_unstable();
+    let last = random.between(1, places.len().max(2) - 1);
+    let behind = *places.get(last)?;
+    Some([places[random.below(last)], behind])
 }
 
 fn to_step(

@@ -42,6 +42,16 @@ impl Table {
     pub fn end(self) -> usize {
         self.start + PAIR * self.count
     }
+
+    /// What the pairs name; nothing where one of them reaches past the end of the file.
+    fn bodies(self, file: &[u8]) -> Option<Vec<Vec<u8>>> {
+        let body = |place: usize| {
+            let offset = read_u32(file, self.start + PAIR * place)? as usize;
+            let length = read_u32(file, self.start + PAIR * place + 4)? as usize;
+            Some(file.get(offset..offset + length)?.to_vec())
+        };
+        (0..self.count).map(body).collect()
+    }
 }
 
 /// Where the tail of a resolution has the pivot.
@@ -110,20 +120,21 @@ impl Files {
 impl Draft {
     /// Takes a well-formed record for this problem apart.
     pub fn new(problem: &Problem, record: &[u8]) -> Option<Draft> {
-        let start = RECORD_HEAD + assignment_length(problem.variables());
-        let mut steps = Vec::new();
-        for place in 0..read_u32(record, STEP_COUNT)? as usize {
-            let offset = read_u32(record, start + PAIR * place)? as usize;
-            let length = read_u32(record, start + PAIR * place + 4)? as usize;
-            steps.push(record.get(offset..offset + length)?.to_vec());
-        }
-        let bytes = |clause: &Vec<_>| planner::format::literal_bytes(clause);
+        let (sheet, record) = (planner::format::sheet(problem), record.to_vec());
+        Draft::read(&Files { sheet, record })
+    }
+
+    /// Takes both files apart, by their counts and pairs; nothing where these reach past an end.
+    pub fn read(files: &Files) -> Option<Draft> {
+        let (sheet, record) = (files.sheet_table()?, files.record_table()?);
+        let costs = files.sheet.get(4..sheet.start)?.chunks_exact(4);
+        let cost = |part: &[u8]| u32::from_le_bytes([part[0], part[1], part[2], part[3]]);
         Some(Draft {
-            costs: problem.costs.clone(),
-            clauses: problem.clauses.iter().map(bytes).collect(),
-            claim: read_u64(record, 0)?,
-            assignment: record.get(RECORD_HEAD..start)?.to_vec(),
-            steps,
+            costs: costs.map(cost).collect(),
+            clauses: sheet.bodies(&files.sheet)?,
+            claim: read_u64(&files.record, 0)?,
+            assignment: files.record.get(RECORD_HEAD..record.start)?.to_vec(),
+            steps: record.bodies(&files.record)?,
         })
     }
 
@@ -287,6 +298,11 @@ impl Body {
 
     pub fn holds(&self, code: u16) -> bool {
         self.literals.contains(&code)
+    }
+
+    /// Whether the literal's variable stands here in neither way, so that the literal can be added.
+    pub fn has_room_for(&self, code: u16) -> bool {
+        !self.holds(code) && !self.holds(code ^ 1)
     }
 
     /// Adds a literal at its place in the order.

@@ -9,6 +9,7 @@ pub mod outcome;
 pub mod random;
 pub mod sheets;
 pub mod weights;
+pub mod widening;
 
 use damage::Damage;
 use draft::{Draft, Files};
@@ -19,8 +20,9 @@ use random::Random;
 /// How many numbers an answer may have: 0 and those of the refusals. Three answers have 0: see [`outcome::Outcome`].
 pub const NUMBERS: usize = 25;
 
-/// What the samples say that nothing was done to.
+/// What the samples say that nothing was done to, and those of which some resolutions were made wider than they have to be.
 pub const VALID: &str = "accepted valid";
+pub const WIDENED: &str = "accepted widened";
 
 #[derive(Clone, Debug, PartialEq, Eq)]
 pub struct Sample {
@@ -81,6 +83,16 @@ pub fn long_with_weights(seed: u64, size: usize) -> Sample {
     Sample::new(draft.files(), "accepted long with weights")
 }
 
+/// A long sample whose resolutions were made wider than they have to be, by which the record has grown.
+pub fn long_widened(seed: u64, size: usize, mix: Mix) -> Sample {
+    let mut random = Random::new(seed);
+    let problem = sheets::roomy(&mut random);
+    let plan = search::plan(&problem);
+    let mut draft = drafted(&problem, &long::record(&problem, &plan, seed, size, mix));
+    widening::records::widen(&mut draft, &mut random);
+    Sample::new(draft.files(), "accepted long widened")
+}
+
 fn drafted(problem: &Problem, record: &[u8]) -> Draft {
     Draft::new(problem, record).expect("the planner's records are well formed")
 }
@@ -103,9 +115,9 @@ impl Iterator for Stream {
                 self.other = before.files().record;
             }
             let base = self.new_base();
-            let files = base.files();
+            let (files, wider) = (base.files(), widening::count(&base, base.steps.len()));
             self.base = Some(base);
-            return Some(Sample::new(files, VALID));
+            return Some(Sample::new(files, if wider > 0 { WIDENED } else { VALID }));
         }
         self.left -= 1;
         let draft = self.base.take()?;
@@ -129,6 +141,9 @@ impl Stream {
         let record = long::record(&problem, &plan, self.random.next_u64(), size, Mix::Mixed);
         let mut draft = drafted(&problem, &record);
         weights::steps::join(&mut draft, &mut self.random);
+        if self.random.percent(60) {
+            widening::records::join(&mut draft, &mut self.random);
+        }
         draft
     }
 

@@ -2,7 +2,7 @@
 
 mod common;
 
-use common::{first_difference, some_draft};
+use common::{changed_steps, first_difference, judged, some_draft};
 use reference::Answer;
 use samples::damage::{self, Aim, Damage};
 use samples::draft::{code_bytes, Body, Draft};
@@ -15,11 +15,7 @@ use std::collections::{BTreeMap, BTreeSet};
 
 const NONE: u64 = u64::MAX;
 const CLOSE: u32 = 19;
-
-fn judged(draft: &Draft) -> Answer {
-    let files = draft.files();
-    reference::judge(&files.sheet, &files.record)
-}
+const RESOLUTION: u8 = 4;
 
 fn last(draft: &Draft) -> Body {
     draft.step(draft.steps.len() as u32).expect("a last step")
@@ -63,7 +59,7 @@ fn with(fault: Damage, draft: &Draft, random: &mut Random) -> Option<Draft> {
 /// What the names say of the record before, of it after, and of its gap.
 type Said = fn(&Draft, &Draft, u64) -> bool;
 
-const SAID: [(&str, Said); 8] = [
+const SAID: [(&str, Said); 11] = [
     ("within dearer by one", |_, _, gap| gap == 1),
     ("within a gap over 32 bits", |_, _, gap| gap > 1 << 32),
     ("within cost step after the close", |_, after, gap| {
@@ -82,6 +78,13 @@ const SAID: [(&str, Said); 8] = [
         "within weighted step alone, one below the claim",
         one_of_one,
     ),
+    ("within last bound one less", |before, after, gap| {
+        gap == 1 && last(before).literals == last(after).literals
+    }),
+    ("within last bound 0", |_, after, gap| gap == after.claim),
+    ("within bound lowered on the way", |before, after, _| {
+        changed_steps(before, after).len() > 1
+    }),
 ];
 
 fn one_of_one(_: &Draft, after: &Draft, gap: u64) -> bool {
@@ -120,7 +123,8 @@ fn wrong_bound(kind: u8) -> u32 {
     [12, 13, 15, 18, 24][usize::from(kind) - 1]
 }
 
-/// The claim held to its last bound, to one below and to one above. No good step has a bound above.
+/// The claim held to its last bound, to one below and to one above. No good step has a bound above; one below what it could
+/// have only a resolution may have.
 #[test]
 fn bounds_about_the_claim() {
     let alone = ["cost step", "independent set", "weighted step"];
@@ -150,7 +154,11 @@ fn bounds_about_the_claim() {
                 }
                 .bytes();
                 let place = first_difference(&draft.steps, &wrong.steps);
-                assert_eq!(judged(&wrong), refused(wrong_bound(step.kind), place));
+                let wanted = match step.kind {
+                    RESOLUTION if bound < step.bound => with_gap(&wrong, 1),
+                    kind => refused(wrong_bound(kind), place),
+                };
+                assert_eq!(judged(&wrong), wanted);
             }
             met[usize::from(step.kind)] += 1;
         }

@@ -2,7 +2,7 @@
 
 use planner::padding::{Kind, Mix};
 use samples::draft::read_u32;
-use samples::{long, long_with_weights, Sample};
+use samples::{long, long_widened, long_with_weights, widening, Sample};
 
 const SIZE: usize = 1_000_000;
 
@@ -81,8 +81,28 @@ fn long_records_with_weights_are_accepted() {
 }
 
 #[test]
+fn long_records_with_wider_resolutions_are_accepted() {
+    for (seed, mix) in [(12, Mix::Mixed), (13, Mix::Resolution)] {
+        let sample = long_widened(seed, SIZE, mix);
+        let answer = reference::judge(&sample.sheet, &sample.record);
+        let (kinds, count, _) = kinds(&sample);
+        let wider = widening::passed(&sample, &answer);
+        println!(
+            "{mix:?}, {} bytes, {count} steps, {:?}, {wider} wider",
+            sample.record.len(),
+            &kinds[1..]
+        );
+        assert!(answer.accepts(), "{answer:?}");
+        assert!(2 * wider > kinds[4]);
+        assert!(sample.record.len() > SIZE && sample.record.len() < 2 * SIZE);
+    }
+}
+
+#[test]
 fn same_seed_same_long_record() {
     assert_eq!(long(7, 200_000, Mix::Mixed), long(7, 200_000, Mix::Mixed));
     let weighted = || long_with_weights(7, 200_000);
     assert_eq!(weighted(), weighted());
+    let widened = || long_widened(7, 200_000, Mix::Mixed);
+    assert_eq!(widened(), widened());
 }

@@ -2,12 +2,12 @@
 
 mod common;
 
-use common::{first_difference, some_draft};
+use common::{first_difference, resolution_faults, some_draft};
 use samples::damage::{self, Aim, Damage, Way};
 use samples::draft::{codes, read_u32, Draft, Files, Table};
 use samples::outcome::Outcome;
 use samples::random::Random;
-use samples::weights::KIND;
+use samples::{weights, widening};
 use std::collections::BTreeSet;
 
 /// The pair that misses its offset, else the last one if the end of the file is missed.
@@ -31,14 +31,29 @@ fn first_broken(draft: &Draft) -> u64 {
     broken.unwrap() as u64 + 1
 }
 
-/// Nothing is told before such a fault, and it always meets its aim: it is made in a step that was good, by 14 or a number of
-/// document 02, or in a step of kind 5, or at the close. Nor is anything told of a change that leaves no fault behind.
+/// The first resolution with a fault. All citations are good.
+fn first_unresolved(draft: &Draft) -> u64 {
+    let mut steps = (1..=draft.steps.len()).map(|number| (number, draft.step(number as u32)));
+    let found = steps.find(|(_, step)| {
+        let step = step.as_ref().unwrap();
+        step.kind == widening::KIND && !resolution_faults(draft, step).is_empty()
+    });
+    found.unwrap().0 as u64
+}
+
+/// Nothing is told before such a fault, and it always meets its aim: it is made in a step that was good, by 14, 16 to 18 or a
+/// number of document 02, or in a step of kind 4 or 5, or at the close. Nor is anything told of a change that leaves no fault
+/// behind.
 fn is_certain(fault: &Damage) -> bool {
     let by_aim = match fault.aim() {
-        Some(Aim::Refused(number)) => matches!(number, 14 | 19 | 20..=24),
+        Some(Aim::Refused(number)) => matches!(number, 14 | 16..=24),
         unrefused => unrefused.is_some(),
     };
-    by_aim || matches!(fault.way, Way::Step(KIND, _) | Way::Weigh(_))
+    let by_kind = matches!(
+        fault.way,
+        Way::Step(widening::KIND | weights::KIND, _) | Way::Resolve(_) | Way::Weigh(_)
+    );
+    by_aim || by_kind
 }
 
 /// The place that the papers give to what the fault is aimed at; nothing where a fault has no one place.
@@ -54,6 +69,8 @@ fn expected(fault: &Damage, before: &Draft, after: &Draft, files: &Files) -> Opt
         (4, Way::ClauseList(_)) => Some(first_difference(&before.clauses, &after.clauses)),
         (10, _) => Some(first_broken(after)),
         (19, _) => Some(after.steps.len() as u64),
+        // The fault may be that of a step that was not changed, when one that it cites was.
+        (17 | 18, Way::Draft(_)) => Some(first_unresolved(after)),
         (_, Way::Step(..) | Way::Bytes(_) | Way::StepList(_)) => changed_step(),
         _ if is_certain(fault) => changed_step(),
         _ => None,

@@ -5,11 +5,11 @@ use reference::brute::{confirms, confirms_within, least_cost};
 use reference::{Answer, Verdict};
 use samples::draft::read_u32;
 use samples::outcome::{Outcome, Tally};
-use samples::{damage, stream, Sample, VALID};
+use samples::{damage, stream, widening, Sample, VALID, WIDENED};
 use std::collections::BTreeMap;
 
 const SEED: u64 = 1;
-const SAMPLES: usize = 20_000;
+const SAMPLES: usize = 40_000;
 
 /// How many variables brute force may take on.
 const FEW: u16 = 16;
@@ -29,13 +29,13 @@ fn confirmed(sample: &Sample, answer: &Answer) -> bool {
     true
 }
 
-/// How often an outcome is met at least, of 20,000 samples.
+/// How often an outcome is met at least, of 40,000 samples.
 fn enough(outcome: Outcome) -> usize {
     match outcome {
-        Outcome::Least => 1_000,
-        Outcome::NoneExists => 150,
-        Outcome::Within => 250,
-        Outcome::Refused(_) => 5,
+        Outcome::Least => 2_000,
+        Outcome::NoneExists => 300,
+        Outcome::Within => 500,
+        Outcome::Refused(_) => 10,
     }
 }
 
@@ -103,13 +103,40 @@ fn within_is_met_above_and_at_the_least_cost() {
 }
 
 #[test]
-fn what_the_planner_wrote_is_accepted() {
-    for sample in stream(2)
-        .take(20_000)
-        .filter(|sample| sample.aimed == VALID)
-    {
+fn what_nothing_was_done_to_is_accepted() {
+    let mut met: BTreeMap<&str, usize> = BTreeMap::new();
+    let undamaged = |sample: &Sample| [VALID, WIDENED].contains(&sample.aimed);
+    for sample in stream(2).take(20_000).filter(undamaged) {
         let answer = reference::judge(&sample.sheet, &sample.record);
         assert!(answer.accepts() && answer.place == 0, "{sample:?}");
+        let wider = widening::passed(&sample, &answer);
+        assert_eq!(wider > 0, sample.aimed == WIDENED, "{sample:?}");
+        *met.entry(sample.aimed).or_default() += 1;
+    }
+    println!("{met:?}");
+    assert!([VALID, WIDENED].iter().all(|aimed| met[aimed] > 100));
+}
+
+/// Resolutions that are wider than they have to be stand among the good steps of records with every answer that is given after
+/// the steps were come to.
+#[test]
+fn wider_resolutions_are_met_beside_every_answer() {
+    let (mut met, mut steps) = (Tally::default(), 0);
+    for sample in stream(7).take(SAMPLES) {
+        let answer = reference::judge(&sample.sheet, &sample.record);
+        let wider = widening::passed(&sample, &answer);
+        steps += wider;
+        if wider > 0 {
+            met.add(Outcome::of(&answer));
+        }
+    }
+    println!("{steps} wider resolutions, in records with {met}");
+    let early = |number: u32| number < 8 || number == 10 || number == 11;
+    for outcome in Outcome::of_short_files() {
+        match outcome {
+            Outcome::Refused(number) if early(number) => assert_eq!(met.of(outcome), 0),
+            _ => assert!(2 * met.of(outcome) >= enough(outcome), "few of {outcome}"),
+        }
     }
 }
 

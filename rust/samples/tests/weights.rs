@@ -3,36 +3,18 @@
 
 mod common;
 
-use common::{first_difference, some_draft};
+use common::{
+    changed_steps, cost, first_difference, is_entailed, is_true, judged, settled, some_draft, FEW,
+};
 use planner::search;
 use samples::damage::{self, Way};
-use samples::draft::{code_bytes, codes, read_u32, read_u64, Body, Draft};
+use samples::draft::{code_bytes, read_u32, read_u64, Body, Draft};
 use samples::examples::example;
 use samples::random::Random;
 use samples::sheets;
 use samples::weights::steps::is_weighted;
 use samples::weights::{branch, largest, sums, Sums, Weights, DIVISOR, ENTRY, KIND};
 use std::collections::BTreeSet;
-
-/// How many variables are few enough to try every assignment.
-const FEW: usize = 8;
-
-/// Whether an assignment, variable v in bit v - 1, makes a literal true.
-fn is_true(assignment: u32, code: u16) -> bool {
-    (assignment >> (code / 2 - 1) & 1 == 1) == code.is_multiple_of(2)
-}
-
-fn cost(draft: &Draft, assignment: u32) -> i128 {
-    let paid = (0..draft.variables()).filter(|place| assignment >> place & 1 == 1);
-    paid.map(|place| i128::from(draft.costs[place])).sum()
-}
-
-/// The assignments that make all literals of a step false.
-fn settled(draft: &Draft, step: &Body) -> impl Iterator<Item = u32> {
-    let literals = step.literals.clone();
-    let all = 0..1_u32 << draft.variables();
-    all.filter(move |assignment| literals.iter().all(|code| !is_true(*assignment, *code)))
-}
 
 /// A total as 001 has it: the cost times the divisor, less each weight times the true literals that its clause has beyond one,
 /// where that is least among the assignments that make the step's literals false.
@@ -59,17 +41,6 @@ fn is_bound(bound: u64, total: i128, divisor: u16) -> bool {
     let reached = |bound: i128| total <= bound * i128::from(divisor);
     let bound = i128::from(bound);
     reached(bound) && (bound == 0 || !reached(bound - 1))
-}
-
-/// No assignment that satisfies the sheet and makes the literals false is cheaper than the bound.
-fn is_entailed(draft: &Draft, step: &Body) -> bool {
-    let clauses: Vec<Vec<u16>> = draft.clauses.iter().map(|clause| codes(clause)).collect();
-    let satisfied = |assignment: &u32| {
-        let mut clauses = clauses.iter();
-        clauses.all(|clause| clause.iter().any(|code| is_true(*assignment, *code)))
-    };
-    let mut left = settled(draft, step).filter(satisfied);
-    left.all(|assignment| cost(draft, assignment) >= i128::from(step.bound))
 }
 
 fn weighted(draft: &Draft) -> Vec<Body> {
@@ -202,11 +173,6 @@ fn steps_come_with_every_feature() {
     }
 }
 
-fn is_accepted(draft: &Draft) -> bool {
-    let files = draft.files();
-    reference::judge(&files.sheet, &files.record).accepts()
-}
-
 #[test]
 fn certificates_of_weights_are_accepted() {
     let mut random = Random::new(53);
@@ -219,7 +185,7 @@ fn certificates_of_weights_are_accepted() {
             continue;
         };
         draft.steps = steps.iter().map(Body::bytes).collect();
-        assert!(is_accepted(&draft), "{draft:?}");
+        assert!(judged(&draft).accepts(), "{draft:?}");
         let rests = steps.iter().any(|step| step.kind == KIND);
         made += usize::from(rests);
         single += usize::from(rests && steps.len() == 1);
@@ -332,12 +298,6 @@ const WANTED: [(&str, &[&[u32]]); 16] = [
     ("24 bound before a later citation", &[&[24], &[9]]),
     ("24 bound before a later weight", &[&[24], &[23]]),
 ];
-
-fn changed_steps(before: &Draft, after: &Draft) -> Vec<Body> {
-    let both = before.steps.iter().zip(&after.steps);
-    let changed = both.filter(|(before, after)| before != after);
-    changed.map(|(_, step)| Body::read(step).unwrap()).collect()
-}
 
 #[test]
 fn faults_that_show_an_order_have_all_their_faults() {

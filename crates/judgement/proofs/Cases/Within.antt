@@ -109,8 +109,8 @@ refusals =
           ∷ []);
       answer = refused 19 6;
     }
-    -- a fault before the close comes first: the last bound one low, and a claim one low
-    ∷ record { sheet = sheetA; «record» = set recordA4 135 2; answer = refused 18 5 }
+    -- a fault before the close comes first: the last bound one high, and a claim one low
+    ∷ record { sheet = sheetA; «record» = set recordA4 135 4; answer = refused 18 5 }
     ∷ record { sheet = sheetA; «record» = set recordA4 0 7; answer = refused 11 0 }
     ∷ []
 

@@ -18,7 +18,7 @@ use Rattle.judgement.specs.Step.{kindNumber, cited, pivotOf}
 use Rattle.judgement.specs.Writer.{bytesOf, pairsOf, joined, fileOf, assignmentOf, recordOf}
 use Rattle.judgement.specs.Facts.{Among, PairRule, ValidSheet, StepLayout, Resolution, Inference, copies, costs, resolution, Closes, Acceptable}
 use Rattle.judgement.specs.Demands.{IsBytes}
-use Rattle.judgement.proofs.Complete.Typed.{Typed, copyStep, costStep, resolveStep, codesOf, boundOf, typedKind, tailOf, bodyOf, bodiesOf, nth, Ascending, Obeys, Derivation}
+use Rattle.judgement.proofs.Complete.Typed.{Typed, copyStep, costStep, resolveStep, codesOf, boundOf, typedKind, tailOf, bodyOf, bodiesOf, nth, Obeys, Derivation}
 use Rattle.judgement.proofs.Complete.Bytes.{length-bytes, number-of, drop-past, nil-bytes, bytes-are-bytes, append-bytes}
 use Rattle.judgement.proofs.Complete.Stored.{AllFit, ascending-fits}
 use Rattle.judgement.proofs.Complete.Tables.{length-file, file-body, file-pairs}
@@ -201,21 +201,23 @@ module _ (s : List ℕ) (valid : ValidSheet s) (ts : List Typed) (d : Derivation
       }
 
   resolution-of : (k : ℕ) → Among (length ts) k → (codes : List ℕ) (b x y p : ℕ)
-      → Stores (step s (written c bits ts) k) (resolveStep codes b x y p) → AllFit codes → Ascending 0 (variables s) codes
-      → Obeys s (nth ts) k (resolveStep codes b x y p) → Resolution s (written c bits ts) k
-  resolution-of k w codes b x y p says f a (x1, xk, y1, yk, px, py, res, bound-is) =
+      → Stores (step s (written c bits ts) k) (resolveStep codes b x y p) → AllFit codes → Obeys s (nth ts) k (resolveStep codes b x y p)
+      → Resolution s (written c bits ts) k
+  resolution-of k w codes b x y p says f (x1, xk, y1, yk, px, py, res, bound-is) =
       record {
-        kind = says .kind-is;
-        size = resolution-size here codes b x y p says;
-        some-x = rw cites-x x1;
-        earlier-x = rw cites-x xk;
-        some-y = rw cites-y y1;
-        earlier-y = rw cites-y yk;
+        citing = record {
+          kind = says .kind-is;
+          size = resolution-size here codes b x y p says;
+          some-x = rw cites-x x1;
+          earlier-x = rw cites-x xk;
+          some-y = rw cites-y y1;
+          earlier-y = rw cites-y yk;
+        };
         resolves = rw (cites-x, cites-y)
             (resolves-bodies (step s (written c bits ts) x) (step s (written c bits ts) y) here (codesOf (nth ts x)) (codesOf (nth ts y)) codes
             (boundOf (nth ts x)) (boundOf (nth ts y)) p (states x wx) (states y wy)
             (record { members = says-in here (kindNumber Resolvent) codes b (tailOf (resolveStep codes b x y p)) says f; bound-is = says .bound-is ∙ bound-is })
-            pivot px py res (variables s) a);
+            pivot px py res);
       }
     where
       here : List ℕ
@@ -238,18 +240,18 @@ module _ (s : List ℕ) (valid : ValidSheet s) (ts : List Typed) (d : Derivation
 
   -- what a step obeys is an inference by its kind
   infers : (k : ℕ) → Among (length ts) k → (t : Typed) → Stores (step s (written c bits ts) k) t → AllFit (codesOf t)
-      → Ascending 0 (variables s) (codesOf t) → Obeys s (nth ts) k t → Inference s (written c bits ts) k
-  infers k w (copyStep codes j) says f a o =
+      → Obeys s (nth ts) k t → Inference s (written c bits ts) k
+  infers k w (copyStep codes j) says f o =
       let m = valid .m in
       let h : j ≤ clauses s = o .0 .1 in
       copies (stores-copies s (step s (written c bits ts) k) codes j says f (omega (arith, m, h)) (o .0) (o .1))
-  infers k w (costStep codes b) says f a o = costs (stores-costs s (step s (written c bits ts) k) codes b says f o)
-  infers k w (resolveStep codes b x y p) says f a o = resolution (resolution-of k w codes b x y p says f a o)
+  infers k w (costStep codes b) says f o = costs (stores-costs s (step s (written c bits ts) k) codes b says f o)
+  infers k w (resolveStep codes b x y p) says f o = resolution (resolution-of k w codes b x y p says f o)
 
   pub written-inferences : (k : ℕ) → Among (steps (written c bits ts)) k → Inference s (written c bits ts) k
   written-inferences k w =
       let w = rw written-steps at w in
-      infers k w (nth ts k) (written-stores k w) (codes-fit k w) (d .ascending k w) (d .obeys k w)
+      infers k w (nth ts k) (written-stores k w) (codes-fit k w) (d .obeys k w)
 
   -- the last step is one of them
   last : Among (length ts) (length ts)

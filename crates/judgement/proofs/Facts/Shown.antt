@@ -60,7 +60,7 @@ step-inside s r k ok w = go (ok .inferences k w)
     go (copies i) = rw (begins-kind Copy (step s r k) (omega arith) (i .kind)) (clause-inside s r (cited (step s r k) 1) (ok .stored .sheet) (i .cites))
     go (costs i) = rw (begins-kind Cost (step s r k) (omega arith) (i .kind)) own
     go (independent i) = rw (begins-kind IndependentSet (step s r k) (omega arith) (i .citing .kind)) own
-    go (resolution i) = rw (begins-kind Resolvent (step s r k) (omega arith) (i .kind)) own
+    go (resolution i) = rw (begins-kind Resolvent (step s r k) (omega arith) (i .citing .kind)) own
     go (linear i) = rw (begins-kind WeightedSet (step s r k) (omega arith) (i .citing .kind)) own
 
 pub shown-inside : (s r : List ℕ) (k : ℕ) → Inside s r (shownPart s r k)

@@ -11,13 +11,13 @@ use Rattle.judgement.specs.Meaning.{Assignment, cost, Model, Falsifies, 
 use Rattle.judgement.specs.Literals.{holds}
 use Rattle.judgement.specs.Sheet.{problemOf}
 use Rattle.judgement.specs.Record.{claim, steps, assigned, step, lastStep}
-use Rattle.judgement.specs.Step.{literalCount, bound, literals, cited}
-use Rattle.judgement.specs.Facts.{Among, Inference, copies, costs, independent, resolution, linear, BeforeClose, Acceptable, WithinTolerance}
+use Rattle.judgement.specs.Step.{literalCount, bound, literals, stated, cited, pivotOf}
+use Rattle.judgement.specs.Facts.{Among, premise, resolventOf, Inference, copies, costs, independent, resolution, linear, BeforeClose, Acceptable, WithinTolerance}
 use Rattle.judgement.specs.Demands.{IsBytes}
 use Rattle.judgement.proofs.Laws.Membership.{holds-in}
 use Rattle.judgement.proofs.Laws.Truth.{model-or-breaks}
 use Rattle.judgement.proofs.Laws.Cost.{cost-below-none}
-use Rattle.judgement.proofs.Sound.Entail.{stated, copy-entailed, cost-entailed, independent-entailed, resolution-entailed}
+use Rattle.judgement.proofs.Sound.Entail.{copy-entailed, cost-entailed, independent-entailed, resolvent-entailed, weaker-entailed}
 use Rattle.judgement.proofs.Sound.LeastWeighed.{linear-entailed}
 
 -- ---- every step
@@ -32,11 +32,13 @@ inferred s r facts k w (copies f) earlier = copy-entailed s (step s r k) f
 inferred s r facts k w (costs f) earlier = cost-entailed s (step s r k) (facts .forms k w .list) f
 inferred s r facts k w (independent f) earlier = independent-entailed s (step s r k) (facts .stored .sheet) (facts .forms k w .list) f
 inferred s r facts k w (resolution f) earlier =
-    let x = cited (step s r k) 1 in
-    let y = cited (step s r k) 2 in
-    let from-x = earlier x (f .some-x) (f .earlier-x) in
-    let from-y = earlier y (f .some-y) (f .earlier-y) in
-    resolution-entailed (problemOf s) (step s r x) (step s r y) (step s r k) (f .resolves) from-x from-y
+    let x = premise s r k 1 in
+    let y = premise s r k 2 in
+    let b = step s r k in
+    let from-x = earlier (cited b 1) (f .citing .some-x) (f .citing .earlier-x) in
+    let from-y = earlier (cited b 2) (f .citing .some-y) (f .citing .earlier-y) in
+    let resolvent = resolvent-entailed (problemOf s) (stated x) (stated y) (pivotOf b) from-x from-y in
+    weaker-entailed (problemOf s) (stated b) (resolventOf x y b) (f .resolves .weakens) resolvent
 inferred s r facts k w (linear f) earlier = linear-entailed s (step s r k) (facts .stored .sheet) f
 
 -- the steps below `top`, each from earlier ones

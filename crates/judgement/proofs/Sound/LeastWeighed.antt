@@ -17,7 +17,7 @@ use Rattle.judgement.specs.Scan.{sumOf, one, countOf}
 use Rattle.judgement.specs.Meaning.{Assignment, positive, negative, variableOf, isPositive, literalTrue, cost, Satisfies, Falsifies, Entailed}
 use Rattle.judgement.specs.Literals.{count, code, holds, mentions}
 use Rattle.judgement.specs.Sheet.{variables, clauses, costOf, problemOf}
-use Rattle.judgement.specs.Step.{bound, literals, tail, divisor, entryCount, entryCites, weight}
+use Rattle.judgement.specs.Step.{bound, literals, stated, tail, divisor, entryCount, entryCites, weight}
 use Rattle.judgement.specs.Integers.{sumOfℤ}
 use Rattle.judgement.specs.Linear.{entryClause, weightOf, negatives, total}
 use Rattle.judgement.specs.Facts.{Among, In, LiteralList, ValidSheet, Linear, trueLiterals, weighed, LeastWeighed}
@@ -26,7 +26,6 @@ use Rattle.judgement.proofs.Laws.Membership.{holds-in, in-mentions, in-
 use Rattle.judgement.proofs.Laws.Truth.{positive-true, negative-true}
 use Rattle.judgement.proofs.Laws.Integers.{cover-diff, Diff, pos-diff, add-diff, sum-diff, equal-parts}
 use Rattle.judgement.proofs.Laws.ByVariable.{literals-by-variable, negatives-by-variable}
-use Rattle.judgement.proofs.Sound.Entail.{stated}
 use Rattle.judgement.proofs.Sound.Weighing.{trueSum, true-split, true-times, takes, adds, no-value, credit, debit, gain, loss, entry-diff, total-diff, variable-covered}
 
 -- ---- integers by their differences

@@ -13,6 +13,10 @@ pub struct Derivation {
     bounding: Bounding,
     /// A step of that kind whose bound reaches this is a leaf. No bound of one reaches "none".
     pub enough: u64,
+    /// Where resolutions may state less than their resolvents, the chance by which they do.
+    chance: Option<Numbers>,
+    /// How many resolutions state less.
+    pub wider_count: u32,
 }
 
 /// By which steps a branch can be left before all variables have values.
@@ -52,6 +56,8 @@ impl Derivation {
             steps: vec![],
             bounding: Bounding::Nothing,
             enough: NONE,
+            chance: None,
+            wider_count: 0,
         }
     }
 
@@ -61,6 +67,14 @@ impl Derivation {
             bounding,
             enough: least_cost(&self.sheet()).unwrap_or(NONE),
             ..self.clone()
+        }
+    }
+
+    /// The same, with resolutions that may state less than their resolvents.
+    pub fn widened(self, chance: Numbers) -> Derivation {
+        Derivation {
+            chance: Some(chance),
+            ..self
         }
     }
 
@@ -97,7 +111,7 @@ impl Derivation {
         if !a.codes.contains(&pos(variable)) {
             return a;
         }
-        self.resolve(&a, &b, variable)
+        self.resolve(&a, &b, values)
     }
 
     /// The index of the first clause that the values break.
@@ -226,14 +240,36 @@ impl Derivation {
         Some(self.push(cost_step(&codes, bound), codes.into_iter().collect(), bound))
     }
 
-    fn resolve(&mut self, a: &Derived, b: &Derived, variable: u16) -> Derived {
+    /// The variable after those that have values is the pivot.
+    fn resolve(&mut self, a: &Derived, b: &Derived, values: &[bool]) -> Derived {
+        let variable = values.len() as u16 + 1;
         let mut codes: BTreeSet<u16> = a.codes.union(&b.codes).copied().collect();
         codes.remove(&pos(variable));
         codes.remove(&neg(variable));
+        let (codes, bound) = self.widen(codes, a.bound.min(b.bound), values);
         let list: Vec<u16> = codes.iter().copied().collect();
-        let bound = a.bound.min(b.bound);
         let body = resolution_step(&list, bound, a.step, b.step, variable);
         self.push(body, codes, bound)
+    }
+
+    /// By chance, further literals that the values make false too, and a bound that is no more than enough. The branch
+    /// is left with either, so the derivation still comes to its close.
+    fn widen(
+        &mut self,
+        mut codes: BTreeSet<u16>,
+        mut bound: u64,
+        values: &[bool],
+    ) -> (BTreeSet<u16>, u64) {
+        let exact = (codes.len(), bound);
+        if let Some(chance) = &mut self.chance {
+            let further = falsified_by(values).into_iter();
+            codes.extend(further.filter(|_| chance.below(2) == 0));
+            if chance.below(2) == 0 {
+                bound = bound.min(self.enough);
+            }
+        }
+        self.wider_count += u32::from((codes.len(), bound) != exact);
+        (codes, bound)
     }
 }
 

@@ -214,6 +214,18 @@ pub fn steps_a() -> Vec<Vec<u8>> {
     ]
 }
 
+/// The same with a step between: the third holds its own pivot as a further literal, and the fourth resolves it away.
+pub fn steps_a_wider() -> Vec<Vec<u8>> {
+    vec![
+        clause_step(&[pos(1), pos(2)], 1),
+        clause_step(&[pos(1), neg(2)], 2),
+        resolution_step(&[pos(1), pos(2)], NONE, 1, 2, 2),
+        resolution_step(&[pos(1)], NONE, 3, 2, 2),
+        cost_step(&[neg(1)], 3),
+        resolution_step(&[], 3, 4, 5, 1),
+    ]
+}
+
 /// The clauses of case C, document 001's example 2.
 pub const CLAUSES_C: [&[u16]; 3] = [
     &[pos(1), pos(3), pos(5)],
@@ -258,7 +270,28 @@ pub fn sheet_d() -> Vec<u8> {
     sheet(&[1, 2, 3, 4, 5, 6], &CLAUSES_D)
 }
 
+/// All lists of literals over this many variables: each positive, negative or not there.
+pub fn every_list(variable_count: u16) -> Vec<Vec<u16>> {
+    let list = |signs: u32| {
+        let literal = |variable: u16| match signs / 3_u32.pow(u32::from(variable) - 1) % 3 {
+            0 => None,
+            1 => Some(pos(variable)),
+            _ => Some(neg(variable)),
+        };
+        (1..=variable_count).filter_map(literal).collect()
+    };
+    let list_count = 3_u32.pow(u32::from(variable_count));
+    (0..list_count).map(list).collect()
+}
+
+/// The literal is true under the assignment, in which variable v is bit v - 1.
+pub fn is_true(code: u16, assignment: u32) -> bool {
+    let value = assignment >> (code / 2 - 1) & 1 == 1;
+    value == code.is_multiple_of(2)
+}
+
 /// Numbers that look random and are the same in every run.
+#[derive(Clone)]
 pub struct Numbers {
     state: u64,
 }

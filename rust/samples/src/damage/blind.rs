@@ -4,7 +4,7 @@ use super::independence::one_more;
 use super::linear::bounds::one_more as one_more_weighed;
 use super::statements::{literal_extra, literal_missing};
 use super::{damage, Damage, Way};
-use crate::draft::{Draft, Files};
+use crate::draft::{Body, Draft, Files};
 use crate::random::Random;
 use crate::weights::KIND;
 
@@ -61,6 +61,12 @@ pub const BLIND: &[Damage] = &[
     damage("blind cost literal", Way::Step(2, literal_extra)),
     damage("blind cost literal left out", Way::Step(2, literal_missing)),
     damage("blind clause cited", Way::Step(3, one_more)),
+    damage("blind resolved literal", Way::Step(4, literal_extra)),
+    damage(
+        "blind resolved literal left out",
+        Way::Step(4, literal_missing),
+    ),
+    damage("blind resolved bound", Way::Step(4, resolved_bound)),
     damage("blind clause weighed", Way::Step(KIND, one_more_weighed)),
     damage("blind weighed literal", Way::Step(KIND, literal_extra)),
     damage(
@@ -152,6 +158,12 @@ fn cheaper(draft: &mut Draft, random: &mut Random) -> Option<()> {
     let place = *random.pick(&paid)?;
     draft.costs[place] -= 1;
     draft.claim = draft.assignment_cost();
+    Some(())
+}
+
+/// A bit of the bound changes. Where it is lower then, the step is good still, but those that cite it may not be.
+fn resolved_bound(_: &Draft, _: u32, body: &mut Body, random: &mut Random) -> Option<()> {
+    body.bound ^= 1 << random.below(64);
     Some(())
 }
 

@@ -1,6 +1,6 @@
 //! Copies and cost steps: literals and bounds that are not what they should be.
 
-use super::{damage, Damage, Way};
+use super::{damage, places, Damage, Way};
 use crate::draft::{Body, Draft};
 use crate::random::Random;
 use planner::NONE;
@@ -61,11 +61,7 @@ pub fn literal_missing(_: &Draft, _: u32, body: &mut Body, random: &mut Random) 
 /// Adds a literal of a variable that the step does not have yet.
 pub fn literal_extra(draft: &Draft, _: u32, body: &mut Body, random: &mut Random) -> Option<()> {
     let code = (2 * random.between(1, draft.variables()) + random.below(2)) as u16;
-    if body.holds(code) || body.holds(code ^ 1) {
-        return None;
-    }
-    body.add(code);
-    Some(())
+    body.has_room_for(code).then(|| body.add(code))
 }
 
 pub fn literal_negated(_: &Draft, _: u32, body: &mut Body, random: &mut Random) -> Option<()> {
@@ -90,13 +86,14 @@ fn other_clause(draft: &Draft, _: u32, body: &mut Body, random: &mut Random) -> 
 
 /// Widens a copied clause: whatever satisfied it still does, but the copy is none any more.
 fn clause_changed(draft: &mut Draft, random: &mut Random) -> Option<()> {
-    let step = Body::read(random.pick(&draft.steps)?).filter(|body| body.kind == 1)?;
-    let number = step.citation(0)?;
-    let mut codes = draft.clause(number)?;
     let code = (2 * random.between(1, draft.variables()) + random.below(2)) as u16;
-    if codes.iter().any(|other| other / 2 == code / 2) {
-        return None;
-    }
+    let mut tried = places(1, draft, random).into_iter();
+    let (number, mut codes) = tried.find_map(|place| {
+        let number = Body::read(&draft.steps[place])?.citation(0)?;
+        let codes = draft.clause(number)?;
+        let is_new = codes.iter().all(|other| other / 2 != code / 2);
+        is_new.then_some((number, codes))
+    })?;
     codes.push(code);
     codes.sort_unstable();
     draft.clauses[number as usize - 1] = crate::draft::code_bytes(&codes);

@@ -1,18 +1,17 @@
 -- `checker::resolve::resolvent_finding` meets its contract. The parts and the pivot that are read are those of the three
--- bodies; pivot, resolvent and bounds are tried in the definition's order.
+-- bodies; pivot, literals and bounds are tried in the definition's order.
 -- Assumes nothing.
+use mathlib.Core.Path.{_∙_}
 use native.Mathlib.Omega.{arith}
 use borrow.Author.Needs.{needs}
 use borrow.Author.Tests.{not-true, not-false}
 use Rattle.checker.proofs.Marking.{stale-later}
-use Rattle.checker.proofs.Resolution.{in-form, pivot-beyond, pivot-fault, resolvent-fault, bounds-left}
+use Rattle.checker.proofs.Resolution.{in-form, pivot-beyond, resolve-fault, bounds-left}
 use Rattle.checker.proofs.resolve.resolvent_finding.Statement.{statement}
 use Rattle.checker.proofs.resolve.resolvent_finding.Tie as tie
 
 whole-pivot-requires : tie.Need-whole-pivot-requires
-whole-pivot-requires c κs =
-    let h = c .before .before .before .pre in
-    (h .0 .of-b .room, h .1)
+whole-pivot-requires c κs = search needs
 
 returns : tie.Need-returns
 returns c =
@@ -36,61 +35,51 @@ mul-resolve c = search needs
 resolve-requires : tie.Need-resolve-requires
 resolve-requires c κs =
     let l3 = c .before in
-    let l1 = l3 .before .before in
-    let f = l1 .before .before in
-    let h = f .before .before .before .before .pre in (
+    let l2 = l3 .before in
+    let l1 = l2 .before in
+    let h = l1 .before .before .before .before .before .before .pre in (
       h .2,
       in-form (l1 .whole-literals .ensures) (h .0 .of-x .list),
-      in-form (l3 .before .whole-literals2 .ensures) (h .0 .of-y .list),
+      in-form (l2 .whole-literals2 .ensures) (h .0 .of-y .list),
       in-form (l3 .whole-literals3 .ensures) (h .0 .of-b .list),
       omega arith,
       omega arith,
+      omega arith,
     )
+
+resolve-fault-requires : tie.Need-resolve-fault-requires
+resolve-fault-requires c κs = omega arith
 
 returns-2 : tie.Need-returns-2
 returns-2 c =
-    let r = c .before .before in
+    let i = c .before in
+    let r = i .before in
     let l3 = r .before .before in
-    let l1 = l3 .before .before in
+    let l2 = l3 .before in
+    let l1 = l2 .before in
     let f = l1 .before .before in
     let a = f .before .before .before .before .args in (
-      pivot-fault (a .x .now) (a .y .now) (a .b .now) (a .k) (l1 .whole-literals .ensures) (l3 .before .whole-literals2 .ensures)
-          (l3 .whole-literals3 .ensures) (f .whole-pivot .ensures .0) (r .resolve .ensures .1 .0) (not-true _ (c .if2 .taken)),
-      r .resolve .ensures .0,
-    )
-
-returns-3 : tie.Need-returns-3
-returns-3 c =
-    let i = c .before .before in
-    let r = i .before .before in
-    let l3 = r .before .before in
-    let l1 = l3 .before .before in
-    let f = l1 .before .before in
-    let a = f .before .before .before .before .args in
-    let has = not-false _ (i .if2 .left) in (
-      resolvent-fault (a .x .now) (a .y .now) (a .b .now) (a .k) (l1 .whole-literals .ensures) (l3 .before .whole-literals2 .ensures)
-          (l3 .whole-literals3 .ensures) (f .whole-pivot .ensures .0) (r .resolve .ensures .1 .0) has (r .resolve .ensures .1 .1 has)
-          (not-true _ (c .if3 .taken)),
+      c .resolve-fault .ensures
+          ∙ resolve-fault (a .x .now) (a .y .now) (a .b .now) (a .k) (l1 .whole-literals .ensures) (l2 .whole-literals2 .ensures)
+          (l3 .whole-literals3 .ensures) (f .whole-pivot .ensures .0) (r .resolve .ensures .1) (not-true _ (i .if2 .taken)),
       r .resolve .ensures .0,
     )
 
 bound-finding-requires : tie.Need-bound-finding-requires
 bound-finding-requires c κs = search needs
 
-returns-4 : tie.Need-returns-4
-returns-4 c =
-    let j = c .before in
-    let i = j .before .before in
-    let r = i .before .before in
+returns-3 : tie.Need-returns-3
+returns-3 c =
+    let i = c .before in
+    let r = i .before in
     let l3 = r .before .before in
-    let l1 = l3 .before .before in
+    let l2 = l3 .before in
+    let l1 = l2 .before in
     let f = l1 .before .before in
-    let a = f .before .before .before .before .args in
-    let has = not-false _ (i .if2 .left) in (
+    let a = f .before .before .before .before .args in (
       rw
-          (bounds-left (a .x .now) (a .y .now) (a .b .now) (a .k) (l1 .whole-literals .ensures) (l3 .before .whole-literals2 .ensures)
-          (l3 .whole-literals3 .ensures) (f .whole-pivot .ensures .0) (r .resolve .ensures .1 .0) has (r .resolve .ensures .1 .1 has)
-          (not-false _ (j .if3 .left)))
+          (bounds-left (a .x .now) (a .y .now) (a .b .now) (a .k) (l1 .whole-literals .ensures) (l2 .whole-literals2 .ensures)
+          (l3 .whole-literals3 .ensures) (f .whole-pivot .ensures .0) (r .resolve .ensures .1) (not-false _ (i .if2 .left)))
           (c .bound-finding .ensures),
       r .resolve .ensures .0,
     )
@@ -106,7 +95,7 @@ resolvent-finding-spec =
     whole-literals-requires-3
     mul-resolve
     resolve-requires
+    resolve-fault-requires
     returns-2
-    returns-3
     bound-finding-requires
-    returns-4)
+    returns-3)

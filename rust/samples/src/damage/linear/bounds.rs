@@ -209,7 +209,7 @@ fn earlier_remainders(draft: &Draft, own: u32, body: &mut Body, random: &mut Ran
 fn earlier_literals(draft: &Draft, own: u32, body: &mut Body, _: &mut Random) -> Option<()> {
     let mut settled = body.clone();
     for code in draft.step(own.checked_sub(1)?)?.literals {
-        if !settled.holds(code) && !settled.holds(code ^ 1) {
+        if settled.has_room_for(code) {
             settled.add(code);
         }
     }

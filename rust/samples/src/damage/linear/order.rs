@@ -2,7 +2,7 @@
 
 use super::{mend_bound, reweigh};
 use crate::damage::statements::bound_off_by_one;
-use crate::damage::{damage, places, Damage, Way};
+use crate::damage::{damage, places, two_places, Damage, Way};
 use crate::draft::{Body, Draft};
 use crate::random::Random;
 use crate::weights::KIND;
@@ -60,13 +60,11 @@ pub const LINEAR_ORDER: &[Damage] = &[
 
 /// Makes the faults in one step of kind 5, and the later ones in another behind it.
 pub fn weigh((first, later): Faults, draft: &mut Draft, random: &mut Random) -> Option<()> {
-    let mut places = places(KIND, draft, random);
     if later.is_empty() {
-        return make(first, *places.first()?, draft, random);
+        let place = *places(KIND, draft, random).first()?;
+        return make(first, place, draft, random);
     }
-    places.sort_unstable();
-    let last = random.between(1, places.len().max(2) - 1);
-    let (behind, before) = (*places.get(last)?, places[random.below(last)]);
+    let [before, behind] = two_places(KIND, draft, random)?;
     make(first, before, draft, random)?;
     make(later, behind, draft, random)
 }
