@@ -23,7 +23,7 @@ use Rattle.judgement.specs.Step.{kindOf, literalCount, bound, literals, tail, c
 use Rattle.judgement.specs.Kinds.{copyFinding}
 use Rattle.judgement.specs.Demands.{IsBytes}
 use Rattle.judgement.specs.Facts.{Among, LiteralList, ValidSheet}
-use Rattle.judgement.proofs.Laws.Scan.{false-i, and-i, and-l, and-r, all-each, all-of}
+use Rattle.judgement.proofs.Laws.Scan.{true-same, false-i, and-i, and-l, and-r, all-each, all-of}
 use Rattle.judgement.proofs.Laws.Findings.{need-true}
 use Rattle.judgement.proofs.Laws.Lists.{list-fine}
 use Rattle.layout.proofs.Number.{number-split}
@@ -31,7 +31,6 @@ use Rattle.checker.specs.Known.{Formed}
 use Rattle.checker.specs.Read.{Within}
 use Rattle.checker.specs.Copy.{sameFrom, isCopied, copies}
 use Rattle.checker.proofs.Body.{pair-within}
-use Rattle.checker.proofs.Marking.{true-same}
 use Rattle.checker.proofs.Known.{fine-need}
 
 -- ---- four codes in one number

@@ -61,12 +61,13 @@ impl Resolve for Merge {
 /// Marks the codes of d, then looks up those of a and b. There is no early exit and no branch at the pivot: a fault ends it
 /// all, and where the pivot stands cannot be guessed. A second look at a code changes nothing.
 ///
-/// A step's mark is its number, which is above those of the steps before it, so that none of these has all its ones. So the
-/// ones that all marks of a premise have are this step's number where d holds all of its literals, and else are not. Two bits
-/// more are set in every mark; those of the pivot's two literals lack one each, and so the same ones tell whether it is there.
+/// A step's mark is its number among the resolutions, which is above those before it, so that none of these has all its
+/// ones. So the ones that all marks of a premise have are this step's number where d holds all of its literals, and else are
+/// not. Two bits more are set in every mark; those of the pivot's two literals lack one each, and so the same ones tell
+/// whether it is there.
 pub struct Marks {
     marks: [u32; CODES],
-    /// The number of the last step. A record of k steps has 8 k bytes at least, so that it is below 2^29.
+    /// How many resolutions there were. A record of k steps has 8 k bytes at least, so that it is below 2^29.
     last: u32,
 }
 

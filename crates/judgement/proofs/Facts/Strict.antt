@@ -2,8 +2,7 @@
 -- than that, so that the promise is not an empty one.
 -- Assumes nothing.
 use Prim.Native.Nat.{ℕ}
-use mathlib.Core.Path.{_≡_, refl, sym, _∙_}
-use mathlib.Core.Bool.{Bool, true, false}
+use mathlib.Core.Path.{_≡_, sym, _∙_}
 use mathlib.Core.List.{List}
 use mathlib.Core.Logic.{_↔_, inl, inr}
 use native.Mathlib.Omega.{arith}
@@ -16,7 +15,7 @@ use Rattle.judgement.specs.Judgement.{judgement}
 use Rattle.judgement.specs.Facts.{Among, premise, resolventOf, Resolves, Inference, copies, costs, independent, resolution, linear, BeforeClose}
 use Rattle.judgement.specs.Facts.{IsResolvent, StrictInference, StrictBeforeClose}
 use Rattle.judgement.specs.Demands.{StillPasses}
-use Rattle.judgement.proofs.Laws.Scan.{clash, false-i}
+use Rattle.judgement.proofs.Laws.Scan.{true-same}
 use Rattle.judgement.proofs.Facts.Resolvent.{strict-resolves}
 use Rattle.judgement.proofs.Facts.Accepted.{exactly-when}
 
@@ -43,22 +42,18 @@ still-passes s r = record {
 
 -- ---- the facts of then, exactly: the step weakens the resolvent, and the resolvent the step
 
-same : (a b : Bool) → (a ≡ true → b ≡ true) → (b ≡ true → a ≡ true) → a ≡ b
-same true b f g = sym (f refl)
-same false b f g = sym (false-i b (λ q. clash (g q) refl))
-
 pub strict-exactly : (x y b : List ℕ) → IsResolvent x y b ↔ (Resolves x y b × Weakens (resolventOf x y b) (stated b))
 strict-exactly x y b = (
   λ h. (strict-resolves x y b h, record { literals = λ c held. sym (h .literals-are c) ∙ held; bound = omega (arith, h .bound-is) }),
   λ (wide, back). record {
     pivots = wide .pivots;
-    literals-are = λ c. same _ _ (back .literals c) (wide .weakens .literals c);
+    literals-are = λ c. true-same _ _ (back .literals c) (wide .weakens .literals c);
     bound-is = omega (arith, back .bound, wide .weakens .bound);
   },
 )
 
 -- step k, where it is of kind 4, states no less than the resolvent
-abbrev StatesAll : List ℕ → List ℕ → ℕ → Type 0
+abbrev pub StatesAll : List ℕ → List ℕ → ℕ → Type 0
 StatesAll s r k =
     numberAt (step s r k) 0 1 ≡ kindNumber Resolvent
     → Weakens (resolventOf (premise s r k 1) (premise s r k 2) (step s r k)) (stated (step s r k))

@@ -1,7 +1,6 @@
 -- `checker::marks::join` meets its contract.
 -- Assumes nothing.
 use borrow.Author.Needs.{needs}
-use Rattle.checker.proofs.Marking.{join-on}
 use Rattle.checker.proofs.marks.join.Statement.{statement}
 use Rattle.checker.proofs.marks.join.Tie as tie
 
@@ -15,7 +14,7 @@ element-copy-out-result : tie.Need-element-copy-out-result
 element-copy-out-result c = search needs
 
 returns : tie.Need-returns
-returns c = join-on (rw (c .before .code-in-form .ensures .0))
+returns c = rw (c .before .code-in-form .ensures .0)
 
 pub join-spec : {M : Type 1} → statement M
 join-spec = tie.close (tie.spec code-in-form-requires mul-result element-copy-out-result returns)

@@ -5,7 +5,7 @@ use native.Mathlib.Omega.{arith}
 use borrow.Author.Needs.{needs}
 use Rattle.judgement.specs.Literals.{count}
 use Rattle.checker.specs.Marks.{markAt}
-use Rattle.checker.proofs.Marking.{join-none, joined-to, joins-thirds}
+use Rattle.checker.proofs.Marking.{join-none, join-on, joined-to, joins-thirds}
 use Rattle.checker.proofs.marks.join_few.Statement.{statement}
 use Rattle.checker.proofs.marks.join_few.Tie as tie
 
@@ -35,7 +35,7 @@ returns-2 c =
     let p = a .part .now in
     joined-to (omega arith)
     (joins-thirds p (markAt (a .marks .now)) 1 (l .lesser .result) (count p - 1) (a .x) (omega (arith, l .lesser .ensures))
-    (omega (arith, l .lesser .ensures)) (omega (arith, l .lesser .ensures)) (first .join .ensures) (second .join2 .ensures) (c .join3 .ensures))
+    (omega (arith, l .lesser .ensures)) (omega (arith, l .lesser .ensures)) (join-on (first .join .ensures)) (join-on (second .join2 .ensures)) (join-on (c .join3 .ensures)))
 
 pub join-few-spec : {M : Type 1} → statement M
 join-few-spec =

@@ -1,7 +1,7 @@
 -- `checker::marks::join_four` meets its contract: four literals, one after the other.
 -- Assumes nothing.
 use borrow.Author.Needs.{needs}
-use Rattle.checker.proofs.Marking.{joins-two}
+use Rattle.checker.proofs.Marking.{join-on, joins-two}
 use Rattle.checker.proofs.marks.join_four.Statement.{statement}
 use Rattle.checker.proofs.marks.join_four.Tie as tie
 
@@ -31,8 +31,8 @@ returns c =
     let d = c .before in
     let b = d .before in
     let a = b .before in
-    let two = joins-two 1 1 (a .join .ensures) (b .join2 .ensures) in
-    joins-two 3 1 (joins-two 2 1 two (d .join3 .ensures)) (c .join4 .ensures)
+    let two = joins-two 1 1 (join-on (a .join .ensures)) (join-on (b .join2 .ensures)) in
+    joins-two 3 1 (joins-two 2 1 two (join-on (d .join3 .ensures))) (join-on (c .join4 .ensures))
 
 pub join-four-spec : {M : Type 1} → statement M
 join-four-spec =
