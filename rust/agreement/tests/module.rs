@@ -74,7 +74,7 @@ fn every_outcome_has_its_share() {
 
 /// Wider resolutions are held to the definitions where an answer hangs on them, and so are others.
 #[test]
-fn half_of_the_cases_have_wider_resolutions() {
+fn half_of_what_hangs_on_resolutions_has_wider_ones() {
     let share = 4;
     let cases = choose(8, share * Outcome::of_short_files().count());
     for outcome in Outcome::of_short_files() {

@@ -4,7 +4,8 @@
 mod common;
 
 use common::{
-    changed_steps, cost, first_difference, is_entailed, is_true, judged, settled, some_draft, FEW,
+    assert_each_met, changed_steps, cost, count_seen, first_difference, is_entailed, is_true,
+    judged, settled, some_draft, FEW,
 };
 use planner::search;
 use samples::damage::{self, Way};
@@ -162,15 +163,10 @@ fn steps_come_with_every_feature() {
                 weights,
                 sums,
             };
-            for (met, (_, is_seen)) in met.iter_mut().zip(FEATURES) {
-                *met += usize::from(is_seen(&seen));
-            }
+            count_seen(&mut met, FEATURES.map(|(_, is_seen)| is_seen(&seen)));
         }
     }
-    for (met, (name, _)) in met.into_iter().zip(FEATURES) {
-        println!("{name}: {met}");
-        assert!(met >= 5, "too few: {name}");
-    }
+    assert_each_met(&met, &FEATURES.map(|(name, _)| name));
 }
 
 #[test]

@@ -4,8 +4,8 @@
 mod common;
 
 use common::{
-    changed_steps, first_difference, is_entailed, judged, plain_draft, resolution_faults,
-    some_draft, FEW,
+    assert_each_met, changed_steps, count_seen, first_difference, is_entailed, judged, plain_draft,
+    resolution_faults, some_draft, FEW,
 };
 use samples::damage::{self, Way};
 use samples::draft::{code_bytes, Body, Draft};
@@ -194,15 +194,10 @@ fn steps_come_with_every_feature() {
         let rested_on = rested_on(&draft, draft.steps.len() - 1);
         for place in wider(&draft) {
             let seen = Seen::new(&draft, place, &rested_on);
-            for (met, (_, is_seen)) in met.iter_mut().zip(FEATURES) {
-                *met += usize::from(is_seen(&seen));
-            }
+            count_seen(&mut met, FEATURES.map(|(_, is_seen)| is_seen(&seen)));
         }
     }
-    for (met, (name, _)) in met.into_iter().zip(FEATURES) {
-        println!("{name}: {met}");
-        assert!(met >= 5, "too few: {name}");
-    }
+    assert_each_met(&met, &FEATURES.map(|(name, _)| name));
 }
 
 /// A literal left out, turned round or added, or another bound: the step is refused by 17 or 18 where a premise asks for the

@@ -55,6 +55,18 @@ pub fn resize_variables(draft: &mut Draft, count: usize, cost: u32) -> Option<()
     Some(())
 }
 
+/// A change to the same plan on a sheet of as many variables as one may have.
+pub fn with_most_variables(
+    draft: &mut Draft,
+    change: impl FnOnce(&mut Draft) -> Option<()>,
+) -> Option<()> {
+    let mut larger = draft.clone();
+    resize_variables(&mut larger, MOST_VARIABLES, 1)?;
+    change(&mut larger)?;
+    *draft = larger;
+    Some(())
+}
+
 fn far_too_many(draft: &mut Draft, random: &mut Random) -> Option<()> {
     let count = *random.pick(&[1026, 1032, 2048])?;
     resize_variables(draft, count, 1)

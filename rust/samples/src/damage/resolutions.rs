@@ -3,7 +3,7 @@
 
 pub mod order;
 
-use super::heads::resize_variables;
+use super::heads::with_most_variables;
 use super::statements::literal_extra;
 use super::{damage, places, to_step, Damage, Way};
 use crate::draft::{Body, Draft};
@@ -158,8 +158,8 @@ fn leave_out(draft: &Draft, body: &mut Body, random: &mut Random) -> Option<u16>
     Some(code)
 }
 
-/// The literals that a step may be given more, but for those of one variable.
-fn further(draft: &Draft, body: &Body, but: u16) -> Vec<u16> {
+/// The literals that a step may be given more, but for those of one variable; 0 is none.
+pub(super) fn further(draft: &Draft, body: &Body, but: u16) -> Vec<u16> {
     let codes = 2..2 * draft.variables() as u16 + 2;
     let others = codes.filter(|code| code / 2 != but);
     others.filter(|code| body.has_room_for(*code)).collect()
@@ -193,11 +193,7 @@ fn all_but_one(draft: &Draft, _: u32, body: &mut Body, random: &mut Random) -> O
 
 /// The same of as many variables as a sheet may have.
 fn most_but_one(draft: &mut Draft, random: &mut Random) -> Option<()> {
-    let mut larger = draft.clone();
-    resize_variables(&mut larger, MOST_VARIABLES, 1)?;
-    to_step(KIND, all_but_one, &mut larger, random)?;
-    *draft = larger;
-    Some(())
+    with_most_variables(draft, |larger| to_step(KIND, all_but_one, larger, random))
 }
 
 fn no_literals(draft: &Draft, _: u32, body: &mut Body, _: &mut Random) -> Option<()> {

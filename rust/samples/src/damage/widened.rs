@@ -1,13 +1,14 @@
 //! Wider resolutions: changes that a record survives; last bounds that leave a gap, or are refused under "none"; further
 //! literals that are left at the close, and such as are out of form.
 
-use super::heads::resize_variables;
+use super::heads::with_most_variables;
+use super::resolutions::further;
 use super::{damage, places, Damage, Way};
 use crate::draft::{Body, Draft};
 use crate::random::Random;
 use crate::widening::records::{carry, insert, some_bound, split, widen};
 use crate::widening::{resolution_at, rested_on, KIND};
-use planner::{MOST_VARIABLES, NONE};
+use planner::NONE;
 
 /// How many literals are tried until one is left at the close, or is not.
 const TRIES: usize = 12;
@@ -83,10 +84,8 @@ pub const WIDENED: &[Damage] = &[
 ];
 
 /// A literal of a variable that the step does not hold.
-fn further(draft: &Draft, body: &Body, random: &mut Random) -> Option<u16> {
-    let mut codes: Vec<u16> = (2..2 * draft.variables() as u16 + 2).collect();
-    codes.retain(|code| body.has_room_for(*code));
-    random.pick(&codes).copied()
+fn some_further(draft: &Draft, body: &Body, random: &mut Random) -> Option<u16> {
+    random.pick(&further(draft, body, 0)).copied()
 }
 
 fn split_on_pivot(draft: &mut Draft, random: &mut Random) -> Option<()> {
@@ -101,7 +100,7 @@ fn split_on_another(draft: &mut Draft, random: &mut Random) -> Option<()> {
     let mut tried = places(KIND, draft, random).into_iter();
     tried.find_map(|place| {
         let body = resolution_at(draft, place)?;
-        let variable = further(draft, &body, random)? / 2;
+        let variable = some_further(draft, &body, random)? / 2;
         let own = Some(variable) == body.pivot();
         (!own).then(|| split(draft, place, variable))?
     })
@@ -109,7 +108,7 @@ fn split_on_another(draft: &mut Draft, random: &mut Random) -> Option<()> {
 
 fn close_split(draft: &mut Draft, random: &mut Random) -> Option<()> {
     let last = draft.steps.len().checked_sub(1)?;
-    let variable = further(draft, &resolution_at(draft, last)?, random)? / 2;
+    let variable = some_further(draft, &resolution_at(draft, last)?, random)? / 2;
     split(draft, last, variable)
 }
 
@@ -141,11 +140,7 @@ fn every_variable(draft: &mut Draft, random: &mut Random) -> Option<()> {
 
 /// The same of as many as a sheet may have.
 fn most_variables(draft: &mut Draft, random: &mut Random) -> Option<()> {
-    let mut larger = draft.clone();
-    resize_variables(&mut larger, MOST_VARIABLES, 1)?;
-    every_variable(&mut larger, random)?;
-    *draft = larger;
-    Some(())
+    with_most_variables(draft, |larger| every_variable(larger, random))
 }
 
 fn bound_zero(draft: &mut Draft, random: &mut Random) -> Option<()> {
@@ -195,7 +190,7 @@ fn lower_on_the_way(draft: &mut Draft, random: &mut Random, under_none: bool) ->
 fn left_at_close(draft: &mut Draft, random: &mut Random) -> Option<()> {
     let last = draft.steps.len().checked_sub(1)?;
     let mut body = resolution_at(draft, last)?;
-    body.add(further(draft, &body, random)?);
+    body.add(some_further(draft, &body, random)?);
     draft.steps[last] = body.bytes();
     Some(())
 }
@@ -233,7 +228,7 @@ fn carry_one(draft: &mut Draft, random: &mut Random, left: bool) -> Option<()> {
     let place = *under(draft, premise, random).first()?;
     let mut body = resolution_at(draft, place)?;
     let code = if left {
-        further(draft, &body, random)?
+        some_further(draft, &body, random)?
     } else {
         resolving.pivot()?.checked_mul(2)? + part as u16
     };
@@ -252,7 +247,7 @@ fn pivot_both_ways(_: &Draft, _: u32, body: &mut Body, _: &mut Random) -> Option
 }
 
 fn twice(draft: &Draft, _: u32, body: &mut Body, random: &mut Random) -> Option<()> {
-    let code = further(draft, body, random)?;
+    let code = some_further(draft, body, random)?;
     body.add(code);
     body.add(code);
     Some(())
@@ -261,7 +256,7 @@ fn twice(draft: &Draft, _: u32, body: &mut Body, random: &mut Random) -> Option<
 /// It stands behind a literal of a later variable.
 fn unsorted(draft: &Draft, _: u32, body: &mut Body, random: &mut Random) -> Option<()> {
     let last = *body.literals.last()?;
-    let code = further(draft, body, random).filter(|code| *code < last)?;
+    let code = some_further(draft, body, random).filter(|code| *code < last)?;
     body.literals.push(code);
     Some(())
 }

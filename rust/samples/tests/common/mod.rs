@@ -36,6 +36,21 @@ pub fn plain_draft(random: &mut Random) -> Draft {
     draft
 }
 
+/// Adds which features were seen of a step to how often each was met.
+pub fn count_seen(met: &mut [usize], seen: impl IntoIterator<Item = bool>) {
+    for (met, is_seen) in met.iter_mut().zip(seen) {
+        *met += usize::from(is_seen);
+    }
+}
+
+/// Each feature was met five times at least.
+pub fn assert_each_met(met: &[usize], names: &[&str]) {
+    for (met, name) in met.iter().zip(names) {
+        println!("{name}: {met}");
+        assert!(*met >= 5, "too few: {name}");
+    }
+}
+
 pub fn judged(draft: &Draft) -> Answer {
     let files = draft.files();
     reference::judge(&files.sheet, &files.record)
