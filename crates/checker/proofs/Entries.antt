@@ -22,6 +22,7 @@ use Rattle.judgement.specs.Demands.{IsBytes}
 use Rattle.judgement.proofs.Laws.Integers.{Diff, equal-parts, sum-parts, minus-parts, same-parts}
 use Rattle.judgement.proofs.Laws.Scan.{sum-times}
 use Rattle.judgement.proofs.Sound.Weighing.{entry-diff}
+use Rattle.judgement.proofs.Laws.Stored.{number-below}
 use Rattle.judgement.proofs.Laws.Cost.{cost-below}
 use borrow.Author.Tests.{ne-eqb}
 use Rattle.checker.specs.Prices.{priceAt, Prices}
@@ -31,10 +32,6 @@ use Rattle.checker.proofs.Bits.{add-size, neg-size, minus-size, product
 use Rattle.checker.proofs.Adding.{turned, remTo, remTo-turned, addends-moved, addends-same, addend-close}
 
 -- ---- sizes
-
-pub number-two : (s : List ℕ) → IsBytes s → (at : ℕ) → numberAt s at 2 < 2 ^ 16
-unfolding numberAt
-number-two s b at = omega (arith, b at, b (at + 1))
 
 weights-small : (s e : List ℕ) → IsBytes e → (q c : ℕ) → weightOf s e q c ≤ 65536 * q
 unfolding weightOf sumOf
@@ -46,7 +43,7 @@ weights-small s e b (suc q) c =
   where
     go : (t : Bool) → cond t (weight e (suc q)) 0 ≤ 65536
     go true =
-        let h = number-two e b (2 + 6 * (suc q - 1) + 4) in
+        let h = number-below 2 e b (2 + 6 * (suc q - 1) + 4) in
         omega (arith, h)
     go false = omega arith
 
@@ -55,7 +52,7 @@ unfolding remainder
 remainder-small s e bs be q v l =
     let p = weights-small s e be q (positive v) in
     let n = weights-small s e be q (negative v) in
-    let f = product-small (divisor e) (costOf s v) (number-two e be 0) (let below = cost-below s bs v in omega (arith, below)) in
+    let f = product-small (divisor e) (costOf s v) (number-below 2 e be 0) (let below = cost-below s bs v in omega (arith, below)) in
     let a = minus-size (pos (divisor e * costOf s v)) (pos (weightOf s e q (positive v))) in
     let b = add-size (pos (divisor e * costOf s v) -ℤ pos (weightOf s e q (positive v))) (pos (weightOf s e q (negative v))) in
     omega (arith, p, n, f, a, b, l)
@@ -240,7 +237,7 @@ pub same-list : (n : ℕ) {C C′ : List ℕ} → C ≡ C′ → LiteralList n C
 same-list n e l = rw e l
 
 pub small-divisor : (e : List ℕ) → IsBytes e → {d : ℕ} → d ≡ divisor e → d < 2 ^ 16
-small-divisor e b h = rw h (number-two e b 0)
+small-divisor e b h = rw h (number-below 2 e b 0)
 
 -- ---- the next literal, and what its variable costs
 
@@ -264,4 +261,4 @@ price-below s prices v bytes known a = let below = cost-below s bytes v in rw (p
 pub full-small : (s e : List ℕ) (v : ℕ) → IsBytes s → IsBytes e → fullOf s e v ≤ 2 ^ 48
 full-small s e v bs be =
     let below = cost-below s bs v in
-    product-small (divisor e) (costOf s v) (number-two e be 0) (omega (arith, below))
+    product-small (divisor e) (costOf s v) (number-below 2 e be 0) (omega (arith, below))

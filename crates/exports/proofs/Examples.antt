@@ -1,10 +1,10 @@
--- The numbers of an answer and of a part in their places, as include/plan.h names them.
+-- The numbers of an answer, of a part and of what was written in their places, as include/plan.h names them.
 -- Assumes nothing.
 use mathlib.Core.Path.{_≡_, refl}
 use mathlib.Core.Bool.{true}
 use mathlib.Core.List.{[], _∷_}
 use Rattle.judgement.specs.Computed.{within, refused}
-use Rattle.exports.specs.Numbers.{answerNumbers, partNumbers}
+use Rattle.exports.specs.Numbers.{answerNumbers, partNumbers, writtenNumbers}
 
 -- number, place, cost, open count, step count, gap
 within-numbers : answerNumbers (within 4 7 2 1) ≡ 0 ∷ 0 ∷ 7 ∷ 2 ∷ 1 ∷ 4 ∷ []
@@ -16,3 +16,10 @@ refused-numbers = refl
 -- the sheet, start, size
 part-numbers : partNumbers (record { «in_sheet» = true; start = 32; size = 4 }) ≡ 1 ∷ 32 ∷ 4 ∷ []
 part-numbers = refl
+
+-- number, place, length
+written-numbers : writtenNumbers (record { number = 0; place = 0; length = 36 }) ≡ 0 ∷ 0 ∷ 36 ∷ []
+written-numbers = refl
+
+unfit-numbers : writtenNumbers (record { number = 4; place = 2; length = 0 }) ≡ 4 ∷ 2 ∷ 0 ∷ []
+unfit-numbers = refl

@@ -1,13 +1,17 @@
--- Answers and parts as lists of numbers.
+-- Answers, parts and what was written as lists of numbers.
 -- Assumes nothing.
 use Prim.Native.Nat.{ℕ}
 use mathlib.Core.Bool.{cond}
 use mathlib.Core.List.{List, [], _∷_}
 use Rattle.judgement.specs.declared.Answer.{Answer}
 use Rattle.judgement.specs.declared.Part.{Part}
+use Rattle.judgement.specs.declared.Written.{Written}
 
 abbrev pub answerNumbers : Answer → List ℕ
 answerNumbers a = a .number ∷ a .place ∷ a .cost ∷ a .«open_count» ∷ a .«step_count» ∷ a .gap ∷ []
 
 abbrev pub partNumbers : Part → List ℕ
 partNumbers p = cond (p .«in_sheet») 1 0 ∷ p .start ∷ p .size ∷ []
+
+abbrev pub writtenNumbers : Written → List ℕ
+writtenNumbers w = w .number ∷ w .place ∷ w .length ∷ []

@@ -1,12 +1,14 @@
-// The checker's calls with plain C types: a file is a pointer and a length, and the answer goes into a lent array.
+// The calls with plain C types: a file is a pointer and a length, and the answer goes into a lent array.
 use judgement::Answer;
 use judgement::Part;
+use judgement::Written;
 ghost use mathlib.Core.Path.{_≡_};
 ghost use mathlib.Core.Bool.{cond};
 ghost use lib.ListN.{length};
 ghost use Rattle.judgement.specs.Judgement.{judgement, shownPart};
 ghost use Rattle.judgement.specs.Place.{Inside};
-ghost use Rattle.exports.specs.Numbers.{answerNumbers, partNumbers};
+ghost use Rattle.writer.specs.Canonical.{writing, leaves};
+ghost use Rattle.exports.specs.Numbers.{answerNumbers, partNumbers, writtenNumbers};
 
 fn put_answer(a: Answer, out: &mut [u64])
     requires { ⌜ length (now out) ≡ 6 ⌝ }
@@ -54,4 +56,22 @@ pub extern "C" fn plan_show(sheet: &[u8], record: &[u8], step: u32, part: &mut [
     ensures inside { λ _. ⌜ Inside (now (sheet .entry)) (now («record» .entry)) (shownPart (now (sheet .entry)) (now («record» .entry)) step) ⌝ }
 {
     put_part(checker::shown_part(sheet, record, step), part);
+}
+
+fn put_written(w: Written, out: &mut [u64])
+    requires { ⌜ length (now out) ≡ 3 ⌝ }
+    ensures { λ _. ⌜ now (out .exit) ≡ writtenNumbers w ⌝ }
+{
+    out[0] = w.number as u64;
+    out[1] = w.place as u64;
+    out[2] = w.length as u64;
+}
+
+// Writes the sheet in the one way at the beginning of `out`: number, place and the number of bytes written.
+#[no_mangle]
+pub extern "C" fn plan_write_sheet(sheet: &[u8], out: &mut [u8], answer: &mut [u64; 3])
+    ensures answer { λ _. ⌜ now (answer .exit) ≡ writtenNumbers (writing (now (sheet .entry)) (length (now (out .entry)))) ⌝ }
+    ensures buffer { λ _. ⌜ now (out .exit) ≡ leaves (now (sheet .entry)) (now (out .entry)) ⌝ }
+{
+    put_written(writer::write_sheet(sheet, out), answer);
 }

@@ -5,7 +5,9 @@ pub mod Answers
 pub mod Membership
 pub mod Models
 pub mod Lists
+pub mod Stored
 pub mod Buffer
+pub mod Table
 pub mod Truth
 pub mod Cost
 pub mod Integers

@@ -10,7 +10,8 @@ use crate::step::CostClause;
 use crate::walk::Walk;
 use proved::{Answer, NONE};
 
-const LONGEST: u64 = 4_294_967_295;
+/// As many bytes as a file may have.
+pub(crate) const LONGEST: u64 = 4_294_967_295;
 
 /// The answer to a sheet and a record of any bytes.
 pub fn judge<R: Resolve>(sheet: &[u8], record: &[u8]) -> Answer {

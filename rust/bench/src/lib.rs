@@ -1,5 +1,6 @@
 //! A checker written for speed in safe Rust, to measure the proved one by. It answers every pair of files as
-//! docs/FORMATS.md says, so that it does the same work; the tests hold it to the reference checker.
+//! docs/FORMATS.md says, so that it does the same work; the tests hold it to the reference checker. So it is with two writers
+//! of a sheet in its one order.
 //!
 //! Nothing is allocated for a step. The pairs of the record are gone through once, and each step is checked as its pair is
 //! read: a fault of a step waits until the pairs after it are seen, because theirs is told before it.
@@ -15,9 +16,12 @@ mod read;
 mod record;
 mod refusal;
 mod resolve;
+pub mod sets;
 mod sheet;
 mod step;
 mod walk;
+mod write;
 
 pub use judge::judge;
 pub use resolve::{Marks, Merge, Resolve};
+pub use write::{write_decoded, write_stored};

@@ -1,5 +1,7 @@
-//! Measures the proved checker beside the checker written for speed. `bench/run`, at the repository's root, builds it and
-//! explains it.
+//! Measures the proved checker beside the checker written for speed, and the proved writer beside such writers. `bench/run`,
+//! at the repository's root, builds it and explains it.
+
+mod writers;
 
 use bench::{judge, Marks, Merge};
 use planner::padding::{Kind, Mix};
@@ -12,7 +14,10 @@ use std::{env, fs, process};
 /// The usage, in full in `bench/run`.
 const USAGE: &str = "usage: bench times MEGABYTES ROUNDS SET..
        bench write SET MEGABYTES FOLDER
-       bench once proved|merge|marks|bytes|nothing FOLDER";
+       bench once proved|merge|marks|bytes|nothing FOLDER
+       bench writers times ROUNDS SET..
+       bench writers sheet SET FOLDER
+       bench writers once proved|decoded|stored|bytes|nothing FOLDER";
 
 const SEED: u64 = 11;
 const MEGABYTE: usize = 1_000_000;
@@ -60,6 +65,7 @@ fn main() {
         ["times", size, rounds, ref sets @ ..] => times(size, rounds, sets),
         ["write", set, size, folder] => write(set, size, Path::new(folder)),
         ["once", job, folder] => once(job, Path::new(folder)),
+        ["writers", ref rest @ ..] => writers::run(rest),
         _ => None,
     };
     if done.is_none() {
@@ -72,10 +78,14 @@ fn bytes_of(megabytes: &str) -> Option<usize> {
     megabytes.parse::<usize>().ok()?.checked_mul(MEGABYTE)
 }
 
+fn rounds_of(rounds: &str) -> Option<usize> {
+    rounds.parse().ok().filter(|rounds| *rounds > 0)
+}
+
 /// Prints a line of the table for each set.
 fn times(size: &str, rounds: &str, sets: &[&str]) -> Option<()> {
     let size = bytes_of(size)?;
-    let rounds = rounds.parse().ok().filter(|rounds| *rounds > 0)?;
+    let rounds = rounds_of(rounds)?;
     for name in sets {
         let sample = sample(size, mix_of(name)?);
         println!("{}", line(name, &sample, times_of(&sample, rounds)));
@@ -97,16 +107,26 @@ fn mix_of(set: &str) -> Option<Mix> {
     found.map(|(_, mix)| mix)
 }
 
+fn times_of(sample: &Sample, rounds: usize) -> [f64; TIMED] {
+    least_times(rounds * turns(sample.record.len()), |job| {
+        let (_, job) = JOBS[job];
+        black_box(job(black_box(&sample.sheet), black_box(&sample.record)));
+    })
+}
+
+/// How many files of a size a round goes through: of short ones more.
+fn turns(size: usize) -> usize {
+    (10 * MEGABYTE / size).max(1)
+}
+
 /// The least time of each job in milliseconds, since what else the machine does can only make one longer. The jobs take turns,
 /// so that its busy moments meet all of them.
-fn times_of(sample: &Sample, rounds: usize) -> [f64; TIMED] {
-    // Short records are judged more often.
-    let turns = (10 * MEGABYTE / sample.record.len()).max(1);
+fn least_times(turns: usize, mut run: impl FnMut(usize)) -> [f64; TIMED] {
     let mut least = [f64::INFINITY; TIMED];
-    for _ in 0..rounds * turns {
-        for ((_, job), least) in JOBS.iter().zip(&mut least) {
+    for _ in 0..turns {
+        for (job, least) in least.iter_mut().enumerate() {
             let start = Instant::now();
-            black_box(job(black_box(&sample.sheet), black_box(&sample.record)));
+            run(job);
             *least = least.min(start.elapsed().as_secs_f64() * 1000.0);
         }
     }
@@ -129,18 +149,24 @@ fn line(name: &str, sample: &Sample, [proved, merge, marks, bytes]: [f64; TIMED]
 /// Writes a sheet and a record to run `once` on.
 fn write(set: &str, size: &str, folder: &Path) -> Option<()> {
     let sample = sample(bytes_of(size)?, mix_of(set)?);
-    for (name, bytes) in [("sheet", sample.sheet), ("record", sample.record)] {
-        fs::write(folder.join(name), bytes).unwrap_or_else(|error| fail(name, &error));
-    }
+    save(folder, "sheet", &sample.sheet);
+    save(folder, "record", &sample.record);
     Some(())
+}
+
+fn save(folder: &Path, name: &str, bytes: &[u8]) {
+    fs::write(folder.join(name), bytes).unwrap_or_else(|error| fail(name, &error));
 }
 
 /// Does one job on the files of a folder, for a tool that counts.
 fn once(job: &str, folder: &Path) -> Option<()> {
     let (_, job) = JOBS.into_iter().find(|(name, _)| *name == job)?;
-    let read = |name| fs::read(folder.join(name)).unwrap_or_else(|error| fail(name, &error));
-    println!("{}", job(&read("sheet"), &read("record")));
+    println!("{}", job(&read(folder, "sheet"), &read(folder, "record")));
     Some(())
+}
+
+fn read(folder: &Path, name: &str) -> Vec<u8> {
+    fs::read(folder.join(name)).unwrap_or_else(|error| fail(name, &error))
 }
 
 fn fail(name: &str, error: &std::io::Error) -> ! {

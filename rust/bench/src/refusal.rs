@@ -24,3 +24,4 @@ pub(crate) const ALL_SETTLED: u64 = 21;
 pub(crate) const SHARED_PADDLE: u64 = 22;
 pub(crate) const WEIGHTS: u64 = 23;
 pub(crate) const LINEAR_BOUND: u64 = 24;
+pub(crate) const SHORT_BUFFER: u64 = 25;

@@ -3,6 +3,85 @@
 use crate::read::{code, codes, fault, pair, rises, Codes, Fault, Pairs, CODES};
 use crate::refusal;
 
+/// The parts of a valid sheet.
+pub(crate) struct Parts<'a> {
+    bytes: &'a [u8],
+    pub costs: &'a [[u8; 4]],
+    pairs: Pairs<'a>,
+}
+
+/// As many variables and clauses as a sheet may have.
+const VARIABLES: usize = 1024;
+const CLAUSES: usize = 4096;
+
+impl<'a> Parts<'a> {
+    pub fn read(bytes: &'a [u8]) -> Result<Self, Fault> {
+        let Some(parts) = Self::head(bytes) else {
+            return fault(refusal::SHEET_HEAD, 0);
+        };
+        parts.check_pairs()?;
+        for (index, &stored) in parts.pairs.iter().enumerate() {
+            let (offset, length) = pair(stored);
+            let clause = &bytes[offset..offset + length];
+            let is_even = clause.len().is_multiple_of(2);
+            if !is_even || !rises(codes(clause), parts.costs.len()) {
+                return fault(refusal::RULE_FORM, index + 1);
+            }
+        }
+        Ok(parts)
+    }
+
+    fn head(bytes: &'a [u8]) -> Option<Self> {
+        let ([a, b, c, d], rest) = bytes.split_first_chunk::<4>()?;
+        let (n, m) = (code([*a, *b]), code([*c, *d]));
+        if !(1..=VARIABLES).contains(&n) || m > CLAUSES {
+            return None;
+        }
+        let (costs, rest) = rest.split_at_checked(4 * n)?;
+        let table = rest.get(..8 * m)?;
+        Some(Parts {
+            bytes,
+            costs: costs.as_chunks().0,
+            pairs: table.as_chunks().0,
+        })
+    }
+
+    /// Where the clauses begin.
+    fn bodies_start(&self) -> usize {
+        4 + 4 * self.costs.len() + 8 * self.pairs.len()
+    }
+
+    fn check_pairs(&self) -> Result<(), Fault> {
+        let mut next = self.bodies_start();
+        for (index, &stored) in self.pairs.iter().enumerate() {
+            let (offset, length) = pair(stored);
+            if offset != next {
+                return fault(refusal::SHEET_PAIRS, index + 1);
+            }
+            next = offset + length;
+        }
+        if next != self.bytes.len() {
+            return fault(refusal::SHEET_PAIRS, self.pairs.len());
+        }
+        Ok(())
+    }
+
+    /// The literals of all clauses, one clause after the other.
+    pub fn all_literals(&self) -> Codes<'a> {
+        codes(&self.bytes[self.bodies_start()..])
+    }
+
+    /// What there is for each literal of all clauses, taken apart by clauses.
+    pub fn by_clause<'b, T>(&self, mut all: &'b [T]) -> Vec<&'b [T]> {
+        let next = |&stored: &[u8; 8]| {
+            let (clause, rest) = all.split_at(pair(stored).1 / 2);
+            all = rest;
+            clause
+        };
+        self.pairs.iter().map(next).collect()
+    }
+}
+
 /// A valid sheet.
 pub(crate) struct Sheet<'a> {
     bytes: &'a [u8],
@@ -14,63 +93,22 @@ pub(crate) struct Sheet<'a> {
     pairs: Pairs<'a>,
 }
 
-/// As many variables and clauses as a sheet may have.
-const VARIABLES: usize = 1024;
-const CLAUSES: usize = 4096;
-
 impl<'a> Sheet<'a> {
     pub fn read(bytes: &'a [u8]) -> Result<Self, Fault> {
-        let Some(sheet) = Self::head(bytes) else {
-            return fault(refusal::SHEET_HEAD, 0);
+        let Parts { costs, pairs, .. } = Parts::read(bytes)?;
+        let mut sheet = Sheet {
+            bytes,
+            variable_count: costs.len(),
+            prices: [0; CODES],
+            free_costs: [0; CODES],
+            pairs,
         };
-        sheet.check_pairs()?;
-        for k in 1..=sheet.clause_count() {
-            let clause = sheet.body(k);
-            if clause.len() % 2 != 0 || !rises(codes(clause), sheet.variable_count()) {
-                return fault(refusal::RULE_FORM, k);
-            }
+        for (index, &cost) in costs.iter().enumerate() {
+            let (cost, positive) = (u64::from(u32::from_le_bytes(cost)), 2 * index + 2);
+            sheet.free_costs[positive % CODES] = cost + 1;
+            sheet.prices[(positive + 1) % CODES] = cost;
         }
         Ok(sheet)
-    }
-
-    fn head(bytes: &'a [u8]) -> Option<Self> {
-        let ([a, b, c, d], rest) = bytes.split_first_chunk::<4>()?;
-        let (n, m) = (code([*a, *b]), code([*c, *d]));
-        if !(1..=VARIABLES).contains(&n) || m > CLAUSES {
-            return None;
-        }
-        let (stored, rest) = rest.split_at_checked(4 * n)?;
-        let mut prices = [0; CODES];
-        let mut free_costs = [0; CODES];
-        for (index, &cost) in stored.as_chunks().0.iter().enumerate() {
-            let (cost, positive) = (u64::from(u32::from_le_bytes(cost)), 2 * index + 2);
-            free_costs[positive % CODES] = cost + 1;
-            prices[(positive + 1) % CODES] = cost;
-        }
-        let table = rest.get(..8 * m)?;
-        Some(Sheet {
-            bytes,
-            variable_count: n,
-            prices,
-            free_costs,
-            pairs: table.as_chunks().0,
-        })
-    }
-
-    fn check_pairs(&self) -> Result<(), Fault> {
-        let count = self.pairs.len();
-        let mut next = 4 + 4 * self.variable_count + 8 * count;
-        for (index, &stored) in self.pairs.iter().enumerate() {
-            let (offset, length) = pair(stored);
-            if offset != next {
-                return fault(refusal::SHEET_PAIRS, index + 1);
-            }
-            next = offset + length;
-        }
-        if next != self.bytes.len() {
-            return fault(refusal::SHEET_PAIRS, count);
-        }
-        Ok(())
     }
 
     pub fn variable_count(&self) -> usize {
@@ -81,14 +119,10 @@ impl<'a> Sheet<'a> {
         self.pairs.len()
     }
 
-    fn body(&self, k: usize) -> &'a [u8] {
-        let (offset, length) = pair(self.pairs[k - 1]);
-        &self.bytes[offset..offset + length]
-    }
-
     /// The literals of clause k, from 1.
     pub fn clause(&self, k: usize) -> Codes<'a> {
-        codes(self.body(k))
+        let (offset, length) = pair(self.pairs[k - 1]);
+        codes(&self.bytes[offset..offset + length])
     }
 
     /// The literals of clause k, and whole eights of literals that begin with them, or nothing where the file ends before the

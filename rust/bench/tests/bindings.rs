@@ -3,6 +3,7 @@
 
 use reference::Verdict;
 use samples::examples::{example, examples, Example};
+use samples::writing::Listing;
 use std::collections::BTreeMap;
 use std::fs;
 use std::path::{Path, PathBuf};
@@ -144,6 +145,10 @@ fn the_c_program_makes_no_memory_error() {
         clean(&program, &sheet, &record[..cut], "a cut record");
     }
     clean(&program, &sheet[..sheet.len() - 1], &record, "a cut sheet");
+    // What the writer makes of it is shorter than the block that it gets.
+    let mut listing = Listing::read(&sheet).unwrap();
+    listing.clauses.extend_from_within(..);
+    clean(&program, &listing.sheet(), &record, "clauses twice over");
     for sample in samples::stream(3).take(60).step_by(6) {
         clean(&program, &sample.sheet, &sample.record, sample.aimed);
     }

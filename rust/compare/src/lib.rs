@@ -1,6 +1,7 @@
-//! Both checkers behind one type, and what a message about a difference needs.
+//! Both checkers behind one type, what a message about a difference needs, and what the tests can be told.
 
-use reference::Answer;
+use reference::{Answer, Written};
+use std::str::FromStr;
 
 /// The proved judgement, as the reference checker's type.
 pub fn judge(sheet: &[u8], record: &[u8]) -> Answer {
@@ -15,7 +16,26 @@ pub fn judge(sheet: &[u8], record: &[u8]) -> Answer {
     }
 }
 
+/// What the proved writer answers, as the reference checker's type.
+pub fn write_sheet(sheet: &[u8], out: &mut [u8]) -> Written {
+    let a = proved::write_sheet(sheet, out);
+    Written {
+        number: u32::try_from(a.number).expect("a refusal number"),
+        place: a.place,
+        length: a.length,
+    }
+}
+
 /// Bytes in hexadecimal, for a message that names a case.
 pub fn hex(bytes: &[u8]) -> String {
     bytes.iter().map(|b| format!("{b:02x}")).collect()
+}
+
+/// A number from the environment, or another where there is none.
+pub fn setting<T: FromStr>(name: &str, otherwise: T) -> T {
+    let given = std::env::var(name).ok();
+    given.map_or(otherwise, |text| {
+        text.parse()
+            .unwrap_or_else(|_| panic!("{name} is not a number"))
+    })
 }

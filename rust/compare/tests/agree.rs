@@ -1,11 +1,12 @@
 //! The proved checker and the reference checker give the same answers: on every example, on many generated and damaged
 //! records, and on longer ones. A difference prints both files.
 
-use compare::{hex, judge};
+use compare::{hex, judge, setting, write_sheet};
 use planner::padding::Mix;
 use proved::show;
+use reference::Written;
 use samples::draft::{overwrite, read_u32, read_u64, Body, Draft, Files};
-use samples::examples::{examples, Example};
+use samples::examples::{example, examples, Example};
 use samples::outcome::{Outcome, Tally};
 use samples::weights::largest;
 use samples::{long_widened, long_with_weights, widening, Sample, WIDENED};
@@ -16,14 +17,6 @@ const SEED: u64 = 2;
 
 /// The longest file, in bytes, that is not oversize.
 const LONGEST_FILE: usize = 4_294_967_295;
-
-fn setting<T: std::str::FromStr>(name: &str, otherwise: T) -> T {
-    let given = std::env::var(name).ok();
-    given.map_or(otherwise, |text| {
-        text.parse()
-            .unwrap_or_else(|_| panic!("{name} is not a number"))
-    })
-}
 
 /// The outcome, where answer and line are the same.
 fn same(sheet: &[u8], record: &[u8], what: &str) -> Outcome {
@@ -297,10 +290,22 @@ fn on_empty_files() {
 #[test]
 #[ignore = "needs 4 GiB of memory"]
 fn refusal_1_on_files_of_4_gigabytes() {
-    let too_long = vec![0_u8; LONGEST_FILE + 1];
+    let mut too_long = vec![0_u8; LONGEST_FILE + 1];
     let longest = &too_long[1..];
     let refused = Outcome::Refused;
     assert_eq!(same(&too_long, &[], "a sheet too long"), refused(1));
     assert_eq!(same(&[], &too_long, "a record too long"), refused(1));
     assert_eq!(same(longest, longest, "both at the limit"), refused(2));
+    // The sheet stands in the one way already.
+    let sheet = example("A1").sheet;
+    for write in [write_sheet, reference::write_sheet] {
+        let answers = |written: Written| [u64::from(written.number), written.place, written.length];
+        assert_eq!(answers(write(&too_long, &mut [])), [1, 0, 0]);
+        assert_eq!(answers(write(&too_long[1..], &mut [])), [2, 0, 0]);
+        // A buffer is no file, and may be longer than one.
+        let length = sheet.len();
+        assert_eq!(answers(write(&sheet, &mut too_long)), [0, 0, length as u64]);
+        assert_eq!(too_long[..length], sheet);
+        too_long[..length].fill(0);
+    }
 }

@@ -3,6 +3,7 @@
 mod judging;
 mod planning;
 mod texts;
+mod writing;
 
 use crate::args::Args;
 use crate::failure::Failure;
@@ -23,12 +24,13 @@ struct Command {
 }
 
 #[rustfmt::skip]
-const COMMANDS: [Command; 7] = [
+const COMMANDS: [Command; 8] = [
     Command { name: "judge", help: help::JUDGE, known: &[], run: judging::judge },
     Command { name: "explain", help: help::EXPLAIN, known: &[], run: judging::explained },
     Command { name: "stats", help: help::STATS, known: &[], run: judging::counted },
     Command { name: "text", help: help::TEXT, known: &["--record", "-o"], run: texts::as_text },
     Command { name: "pack", help: help::PACK, known: &["-o"], run: texts::packed },
+    Command { name: "write", help: help::WRITE, known: &["-o"], run: writing::written },
     Command { name: "plan", help: help::PLAN, known: &["--tree", "--unweighted", "--steps", "-o"], run: planning::planned },
     Command { name: "import", help: help::IMPORT, known: &["-o"], run: planning::imported },
 ];

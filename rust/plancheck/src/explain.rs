@@ -14,6 +14,14 @@ pub fn explain(sheet: &[u8], record: &[u8], answer: &Answer) -> Vec<String> {
     lines
 }
 
+/// What a sheet has at the place of its own refusal, where there is no record beside it.
+pub fn sheet_alone(bytes: &[u8], answer: &Answer) -> Vec<String> {
+    match Sheet::open(bytes).filter(|_| answer.number != 1) {
+        Some(sheet) => in_sheet(&sheet, bytes.len(), answer),
+        None => vec![format!("sheet: {} bytes", bytes.len())],
+    }
+}
+
 fn shown(sheet_bytes: &[u8], record_bytes: &[u8], answer: &Answer) -> Vec<String> {
     let sizes = || {
         let (sheet, record) = (sheet_bytes.len(), record_bytes.len());

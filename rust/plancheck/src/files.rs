@@ -1,9 +1,11 @@
 //! Files read once and whole, and the questions to the proved checker that say what can be done with them.
 
+use crate::explain;
 use crate::failure::Failure;
 use crate::record::Record;
 use crate::refusals::sentence;
 use crate::sheet::Sheet;
+use proved::Answer;
 use std::fs::File;
 use std::io::{self, IsTerminal, Read, Write};
 use std::path::Path;
@@ -58,17 +60,46 @@ pub fn write(path: &Path, bytes: &[u8]) -> Result<(), Failure> {
 /// record's own is number 5.
 pub fn valid_sheet<'a>(path: &Path, bytes: &'a [u8]) -> Result<Sheet<'a>, Failure> {
     let answer = proved::judge(bytes, &[]);
-    let sheet = Sheet::open(bytes);
-    if let Some(sheet) = sheet.filter(|_| answer.number == 5) {
-        return Ok(sheet);
+    match Sheet::open(bytes).filter(|_| answer.number == 5) {
+        Some(sheet) => Ok(sheet),
+        None => Err(refused(path, sheet_byte(bytes, &answer), &answer)),
     }
+}
+
+/// The byte of a sheet that its refusal is about.
+fn sheet_byte(bytes: &[u8], answer: &Answer) -> usize {
     let place = answer.place as usize;
-    let byte = match (answer.number, sheet) {
+    match (answer.number, Sheet::open(bytes)) {
         (3, Some(sheet)) if place > 0 => sheet.clauses.pair_place(place),
         (4, Some(sheet)) => sheet.clauses.pair(place).map_or(0, |(start, _)| start),
         _ => 0,
+    }
+}
+
+/// The sheet as the proved writer has it. It grows by no byte, so that a buffer of the sheet's length is never too short.
+pub fn canonical(path: &Path, sheet: &[u8]) -> Result<Vec<u8>, Failure> {
+    let mut buffer = vec![0; sheet.len()];
+    let written = proved::write_sheet(sheet, &mut buffer);
+    if written.number != 0 {
+        return Err(unwritten(path, sheet, &written));
+    }
+    buffer.truncate(written.length as usize);
+    Ok(buffer)
+}
+
+/// The writer's refusal, with what stands at its place.
+fn unwritten(path: &Path, sheet: &[u8], written: &proved::Written) -> Failure {
+    let answer = Answer {
+        number: written.number,
+        place: written.place,
+        cost: 0,
+        open_count: 0,
+        step_count: 0,
+        gap: 0,
     };
-    Err(refused(path, byte, &answer))
+    let refused = refused(path, sheet_byte(sheet, &answer), &answer);
+    let shown = explain::sheet_alone(sheet, &answer).join("\n");
+    Failure::Content(format!("{}\n{shown}", refused.message()))
 }
 
 /// The record, where the proved checker has nothing against its head and its pairs.
@@ -93,7 +124,7 @@ pub fn laid_out<'a>(path: &Path, sheet: &[u8], bytes: &'a [u8]) -> Result<Record
     }
 }
 
-fn refused(path: &Path, byte: usize, answer: &proved::Answer) -> Failure {
+fn refused(path: &Path, byte: usize, answer: &Answer) -> Failure {
     let (line, sentence) = (answer.line(), sentence(answer));
     Failure::Content(format!(
         "{}: byte {byte}: {line}\n{sentence}",

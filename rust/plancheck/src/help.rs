@@ -9,6 +9,7 @@ plancheck: judges plans by the proved checker, and shows, writes, plans and impo
   plancheck text SHEET                       the sheet as text
   plancheck text --record SHEET RECORD       the record as text
   plancheck pack TEXT -o FILE                from text back to bytes
+  plancheck write SHEET -o OUT               the sheet in the one way to write it, to compare it with others
   plancheck plan SHEET -o RECORD             plans the sheet
   plancheck plan --steps N SHEET -o RECORD   plans it in N steps at most, and stops early if they do not suffice
   plancheck import FILE.wcnf -o SHEET        a sheet from the weighted DIMACS form
@@ -83,6 +84,21 @@ plancheck pack TEXT -o FILE
 
 Turns the text of a sheet or of a record into the file. See 'plancheck text --help' for the lines. Faults name the line.
 What the file's fields can hold is written, right or wrong; 'plancheck judge' says which.
+";
+
+pub const WRITE: &str = "\
+plancheck write SHEET -o OUT
+
+Writes the canonical sheet of a valid one, as the proved writer has it: the same variables and costs, the clauses sorted by the
+codes of their literals, a clause before those that it begins, each clause once. The literal v has the code 2 v, and -v has
+2 v + 1. Sheets with the same variables, costs and set of clauses come out byte for byte alike, and no others do. A sheet that
+is canonical already stays as it is.
+
+Clauses get other numbers, and a record cites them by number: it keeps to the sheet that it was made for. So keep that sheet, or
+plan the canonical one. OUT may be SHEET itself.
+
+Exit code 0 for a sheet that is written, 1 for a refused one, which leaves OUT as it was, 2 for wrong use and files that cannot
+be read or written.
 ";
 
 pub const PLAN: &str = "\

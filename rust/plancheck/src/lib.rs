@@ -1,6 +1,7 @@
 //! The plan checker's command line: everything around the proved checker that a person needs to use it.
 //!
-//! Nothing here judges. Every verdict is `proved::judge`'s; the readers below take files apart to show them.
+//! Nothing here judges. Every verdict is `proved::judge`'s, and what a canonical sheet is, `proved::write_sheet` says; the
+//! readers below take files apart to show them.
 #![forbid(unsafe_code)]
 
 pub mod args;

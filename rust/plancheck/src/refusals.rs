@@ -34,6 +34,7 @@ pub fn sentence(answer: &Answer) -> String {
         (Verdict::Refused, 1..=7) => about_layout(answer.number, place),
         (Verdict::Refused, 8..=11) => about_claim(answer.number, place),
         (Verdict::Refused, 12..=24) => about_step(answer.number, place),
+        (Verdict::Refused, 25) => "Short buffer: the sheet, written in the one way, is longer than the buffer.".to_string(),
         (Verdict::Refused, number) => format!("{number} is not the number of a refusal."),
     }
 }

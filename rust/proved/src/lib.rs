@@ -1,6 +1,6 @@
-//! The proved checker, called from Rust. Every answer here is the static library's: nothing is judged on this side.
+//! The proved checker, called from Rust. Every answer here is the static library's: nothing is judged or sorted on this side.
 //!
-//! The declarations of the library's functions are not checked against its source, so they are two, and everything else goes
+//! The declarations of the library's functions are not checked against its source, so they are few, and everything else goes
 //! through the safe functions below.
 
 /// The answer to a sheet and a record.
@@ -74,6 +74,17 @@ impl Answer {
     }
 }
 
+/// What came of writing a sheet.
+#[derive(Clone, Copy, Debug, PartialEq, Eq)]
+pub struct Written {
+    /// The refusal's number, 0 where the sheet was written.
+    pub number: u64,
+    /// The clause that the refusal names, 0 where there is none.
+    pub place: u64,
+    /// How many bytes were written, 0 where the sheet is refused.
+    pub length: u64,
+}
+
 extern "C" {
     // A slice passes as a pointer and a length, an array as a pointer: see include/plan.h.
     fn plan_judge(
@@ -90,6 +101,13 @@ extern "C" {
         record_len: usize,
         step: u32,
         part: *mut u64,
+    );
+    fn plan_write_sheet(
+        sheet: *const u8,
+        sheet_len: usize,
+        out: *mut u8,
+        out_len: usize,
+        answer: *mut u64,
     );
 }
 
@@ -137,12 +155,37 @@ pub fn show<'a>(sheet: &'a [u8], record: &'a [u8], step: u32) -> &'a [u8] {
     &file[start..start + size]
 }
 
+/// Writes a sheet in the one way: the clauses sorted by their codes, a shorter list before those that it begins, each once.
+///
+/// The buffer then begins with the written sheet, and the bytes behind it stay; where the sheet is refused, or the buffer is
+/// too short (25), all of it stays. A buffer as long as the sheet is always enough. The clauses' numbers move, so that a
+/// record keeps to its own sheet.
+pub fn write_sheet(sheet: &[u8], out: &mut [u8]) -> Written {
+    let mut numbers = [0u64; 3];
+    // SAFETY: the sheet may be read, the buffer written, and the array has three places; none of them overlap.
+    unsafe {
+        plan_write_sheet(
+            sheet.as_ptr(),
+            sheet.len(),
+            out.as_mut_ptr(),
+            out.len(),
+            numbers.as_mut_ptr(),
+        );
+    }
+    let [number, place, length] = numbers;
+    Written {
+        number,
+        place,
+        length,
+    }
+}
+
 #[cfg(test)]
 mod tests {
     use super::*;
-    use std::ptr::null;
+    use std::ptr::{null, null_mut};
 
-    /// Both calls, on files by pointer and length.
+    /// Both calls that take a record, on files by pointer and length.
     fn called(sheet: (*const u8, usize), record: (*const u8, usize)) -> ([u64; 6], [u64; 3]) {
         // Not what may be answered, so that every number is seen to be written.
         let (mut answer, mut part) = ([7; 6], [7; 3]);
@@ -169,5 +212,28 @@ mod tests {
         assert_eq!(called(nothing, nothing), ([2, 0, 0, 0, 0, 0], [0; 3]));
         assert_eq!(called(nothing, record), ([2, 0, 0, 0, 0, 0], [0; 3]));
         assert_eq!(called(sheet, nothing), ([5, 0, 0, 0, 0, 0], [0; 3]));
+    }
+
+    /// The writer, on a sheet and a buffer by pointer and length.
+    fn written(sheet: (*const u8, usize), out: (*mut u8, usize)) -> [u64; 3] {
+        let mut answer = [7; 3];
+        // SAFETY: as above, and nothing else looks at the buffer.
+        unsafe { plan_write_sheet(sheet.0, sheet.1, out.0, out.1, answer.as_mut_ptr()) };
+        answer
+    }
+
+    #[test]
+    fn null_is_a_sheet_or_a_buffer_of_no_bytes() {
+        let (no_sheet, no_buffer) = ((null(), 0), (null_mut(), 0));
+        let bytes = include_bytes!("../../../examples/B1/sheet");
+        let sheet = (bytes.as_ptr(), bytes.len());
+        let mut out = [7; 10];
+        assert_eq!(written(no_sheet, no_buffer), [2, 0, 0]);
+        assert_eq!(written(sheet, no_buffer), [25, 0, 0]);
+        assert_eq!(written(no_sheet, (out.as_mut_ptr(), out.len())), [2, 0, 0]);
+        assert_eq!(out, [7; 10]);
+        // It has no clauses, so that it stands in the one way already.
+        assert_eq!(written(sheet, (out.as_mut_ptr(), out.len())), [0, 0, 8]);
+        assert_eq!((&out[..8], &out[8..]), (&bytes[..], &[7; 2][..]));
     }
 }

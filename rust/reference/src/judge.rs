@@ -59,7 +59,7 @@ fn unrefused(sheet: &[u8], record: &[u8]) -> Result<Answer, Refusal> {
 }
 
 /// Refusal 1.
-fn check_size(sheet: &[u8], record: &[u8]) -> Result<(), Refusal> {
+pub(crate) fn check_size(sheet: &[u8], record: &[u8]) -> Result<(), Refusal> {
     if oversize(sheet.len() as u64, record.len() as u64) {
         return refuse(OVERSIZE, 0);
     }

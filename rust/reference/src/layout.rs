@@ -9,6 +9,11 @@ pub(crate) fn number(bytes: &[u8]) -> u64 {
     value
 }
 
+/// Puts a number at the end of `file`, in its lowest `size` bytes, lowest byte first. The caller knows that it fits.
+pub(crate) fn append_number(file: &mut Vec<u8>, value: u128, size: usize) {
+    file.extend(&value.to_le_bytes()[..size]);
+}
+
 /// The length of a file or of a part of one, as a wide number.
 pub(crate) fn length(bytes: &[u8]) -> u128 {
     bytes.len() as u128
@@ -85,4 +90,15 @@ pub(crate) fn read_bodies(file: &[u8], pairs_start: usize, count: u64) -> Result
         return Err(count);
     }
     Ok(bodies)
+}
+
+/// Puts the pairs that name `bodies` at the end of `file`, which holds everything before them, and then the bodies.
+pub(crate) fn append_bodies(file: &mut Vec<u8>, bodies: &[Vec<u8>]) {
+    let mut offset = pairs_end(file.len(), bodies.len() as u64);
+    for body in bodies {
+        append_number(file, offset, 4);
+        append_number(file, length(body), 4);
+        offset += length(body);
+    }
+    file.extend(bodies.concat());
 }

@@ -1,4 +1,4 @@
-//! The reference checker: document 01, with changes 1, 2, 3 and 5 of document 02, in the plainest Rust there is.
+//! The reference checker: document 01, with changes 1, 2, 3, 5 and 6 of document 02, in the plainest Rust there is.
 //! Change 4 alters no answer.
 //!
 //! It exists to be compared with the proved checker, so it shares nothing with it and prefers sets, copies and
@@ -18,7 +18,8 @@
 //! | cost resolution (001, definition 8), with weakening | kind 4 |
 //! | weighted clauses (001, 5.1.2) | kind 5 |
 //!
-//! There are four kinds of answer, and a [`Verdict`] names them: two acceptances, "within", and the refusals.
+//! There are four kinds of answer, and a [`Verdict`] names them: two acceptances, "within", and the refusals. Writing a
+//! sheet judges nothing, and answers with [`Written`].
 
 #![forbid(unsafe_code)]
 #![warn(missing_docs)]
@@ -38,10 +39,12 @@ mod sheet;
 mod show;
 mod steps;
 mod weighted;
+mod write;
 
 pub use answer::{Answer, Verdict};
 pub use judge::{judge, oversize, sheet_is_valid};
 pub use show::{line, show};
+pub use write::{write_sheet, Written};
 
 /// The bound, or the claim, "none". No sum of a sheet's costs comes near it.
 pub const NONE: u64 = u64::MAX;

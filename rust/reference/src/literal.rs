@@ -24,6 +24,10 @@ impl Literal {
         }
     }
 
+    pub fn code(self) -> u32 {
+        self.code
+    }
+
     pub fn variable(self) -> u32 {
         self.code / 2
     }

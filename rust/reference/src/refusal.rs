@@ -37,3 +37,4 @@ pub(crate) const ALL_SETTLED: u32 = 21;
 pub(crate) const SHARED_PADDLE: u32 = 22;
 pub(crate) const WEIGHTS: u32 = 23;
 pub(crate) const LINEAR_BOUND: u32 = 24;
+pub(crate) const SHORT_BUFFER: u32 = 25;

@@ -51,7 +51,7 @@ impl Met {
         }
     }
 
-    /// Every refusal but these was met.
+    /// Every refusal of the judgement but these was met. 25 is the writer's alone.
     fn assert_all_refusals_but(&self, never: &[u32]) {
         let expected: BTreeSet<u32> = (1..=24).filter(|n| !never.contains(n)).collect();
         assert_eq!(self.refusals, expected);

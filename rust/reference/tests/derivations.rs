@@ -171,7 +171,8 @@ fn damaged_files_are_refused_or_what_they_say_is_still_true() {
         }
     }
     assert!(damaged_and_accepted > 100 && damaged_and_within > 100);
-    // All but 1, which takes files of 4 GiB. Two bytes neither bring literals into the last step nor turn a claim into
-    // "none", but one byte takes a last bound of "none" below that claim: that is where 19 comes from.
+    // All of the judgement's but 1, which takes files of 4 GiB. Two bytes neither bring literals into the last step nor
+    // turn a claim into "none", but one byte takes a last bound of "none" below that claim: that is where 19 comes
+    // from.
     assert_eq!(refusals, (2..=24).collect());
 }

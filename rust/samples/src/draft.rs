@@ -38,6 +38,15 @@ pub struct Table {
 }
 
 impl Table {
+    /// Where a sheet keeps them, by its counts.
+    pub fn of_sheet(sheet: &[u8]) -> Option<Table> {
+        let [variables, count] = [read_u16(sheet, 0)?, read_u16(sheet, 2)?].map(usize::from);
+        Some(Table {
+            start: 4 + 4 * variables,
+            count,
+        })
+    }
+
     /// Where the pairs end.
     pub fn end(self) -> usize {
         self.start + PAIR * self.count
@@ -95,17 +104,21 @@ pub fn code_bytes(codes: &[u16]) -> Vec<u8> {
     codes.iter().flat_map(|code| code.to_le_bytes()).collect()
 }
 
+/// A sheet's costs and clause bodies, by its counts and pairs; nothing where these reach past its end.
+pub fn sheet_parts(sheet: &[u8]) -> Option<(Vec<u32>, Vec<Vec<u8>>)> {
+    let table = Table::of_sheet(sheet)?;
+    let costs = sheet.get(4..table.start)?.chunks_exact(4);
+    let cost = |part: &[u8]| u32::from_le_bytes([part[0], part[1], part[2], part[3]]);
+    Some((costs.map(cost).collect(), table.bodies(sheet)?))
+}
+
 impl Files {
     pub fn variables(&self) -> Option<usize> {
         read_u16(&self.sheet, 0).map(usize::from)
     }
 
     pub fn sheet_table(&self) -> Option<Table> {
-        let count = usize::from(read_u16(&self.sheet, 2)?);
-        Some(Table {
-            start: 4 + 4 * self.variables()?,
-            count,
-        })
+        Table::of_sheet(&self.sheet)
     }
 
     pub fn record_table(&self) -> Option<Table> {
@@ -126,12 +139,11 @@ impl Draft {
 
     /// Takes both files apart, by their counts and pairs; nothing where these reach past an end.
     pub fn read(files: &Files) -> Option<Draft> {
-        let (sheet, record) = (files.sheet_table()?, files.record_table()?);
-        let costs = files.sheet.get(4..sheet.start)?.chunks_exact(4);
-        let cost = |part: &[u8]| u32::from_le_bytes([part[0], part[1], part[2], part[3]]);
+        let (costs, clauses) = sheet_parts(&files.sheet)?;
+        let record = files.record_table()?;
         Some(Draft {
-            costs: costs.map(cost).collect(),
-            clauses: sheet.bodies(&files.sheet)?,
+            costs,
+            clauses,
             claim: read_u64(&files.record, 0)?,
             assignment: files.record.get(RECORD_HEAD..record.start)?.to_vec(),
             steps: record.bodies(&files.record)?,

@@ -10,6 +10,7 @@ pub mod random;
 pub mod sheets;
 pub mod weights;
 pub mod widening;
+pub mod writing;
 
 use damage::Damage;
 use draft::{Draft, Files};
@@ -17,7 +18,7 @@ use planner::padding::Mix;
 use planner::{format, long, search, tree, Plan, Problem};
 use random::Random;
 
-/// How many numbers an answer may have: 0 and those of the refusals. Three answers have 0: see [`outcome::Outcome`].
+/// How many numbers a judgement may have: 0 and those of its refusals. Three answers have 0: see [`outcome::Outcome`].
 pub const NUMBERS: usize = 25;
 
 /// What the samples say that nothing was done to, and those of which some resolutions were made wider than they have to be.

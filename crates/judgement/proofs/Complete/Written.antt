@@ -84,7 +84,7 @@ module _ (c : ℕ) (bits : List ℕ) (bodies : List (List ℕ)) where
     unfolding recordOf
     record-pairs = rw length-before at (file-pairs before bodies before-fits)
 
-pairs-bytes : (start : ℕ) (bodies : List (List ℕ)) → IsBytes (pairsOf start bodies)
+pub pairs-bytes : (start : ℕ) (bodies : List (List ℕ)) → IsBytes (pairsOf start bodies)
 unfolding pairsOf
 pairs-bytes start [] = nil-bytes
 pairs-bytes start (b ∷ bs) = search (append-bytes, bytes-are-bytes, pairs-bytes (start + length b) bs)

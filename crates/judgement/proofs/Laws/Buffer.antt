@@ -1,11 +1,14 @@
--- Writing over the beginning of a lent buffer, piece after piece.
+-- Writing over the beginning of a lent buffer, piece after piece, and into a part of it. Nothing here knows what is written.
 -- Assumes nothing.
-use Prim.Native.Nat.{ℕ, _≤_}
-use mathlib.Core.Path.{_≡_}
-use mathlib.Core.List.{List, _++_}
-use lib.ListN.{length, take, drop, length-append}
-use lib.Seq.{length-take-le, take-length, take-at, drop-append-add, drop-drop, paste}
-use Rattle.judgement.specs.Buffer.{over}
+use Prim.Native.Nat.{ℕ, suc, _+_, _-_, _≤_, _<_}
+use mathlib.Core.Path.{_≡_, refl, _∙_}
+use mathlib.Core.List.{List, _++_, append-assoc, append-nil}
+use native.Mathlib.Omega.{arith}
+use native.Mathlib.Numerals.{add-one}
+use borrow.Author.Tests.{le-leb, lt-leb}
+use lib.ListN.{length, getD, take, drop, set, length-append, length-drop, drop-of-length-le}
+use lib.Seq.{length-take-le, take-length, take-suc, take-all, take-at, drop-at, drop-cons, drop-append-add, drop-drop, set-at, paste}
+use Rattle.judgement.specs.Buffer.{over, put}
 
 -- w copied behind the first a elements
 pub paste-over : (w l : List ℕ) (a : ℕ) → a ≤ length l → paste l a w (length w) ≡ over (take a l ++ w) l
@@ -21,3 +24,72 @@ over-next v w l₀ l a e h =
       drop-append-add v (drop (length v) l₀) (length w),
       drop-drop (length w) (length v) l₀,
     )
+
+pub length-over : (w l : List ℕ) → length w ≤ length l → length (over w l) ≡ length l
+length-over w l h = rw (length-append, length-drop) (omega arith)
+
+-- what begins with w stays as it is when w is put there again
+pub over-again : (w l : List ℕ) → over w (w ++ l) ≡ w ++ l
+over-again w l = rw (drop-at w l (length w) refl)
+
+-- ---- where there is room, and where there is none
+
+pub put-room : (w l : List ℕ) → length w ≤ length l → put w l ≡ over w l
+unfolding put
+put-room w l h = rw (le-leb (length w) (length l) h)
+
+pub put-short : (w l : List ℕ) → length l < length w → put w l ≡ l
+unfolding put
+put-short w l h = rw (lt-leb (length w) (length l) h)
+
+-- ---- one more element
+
+pub put-turn : (w l₀ l : List ℕ) (i : ℕ) → i < length w → length w ≤ length l₀ → l ≡ take i w ++ drop i l₀
+    → set l i (getD w i 0) ≡ take (i + 1) w ++ drop (i + 1) l₀
+put-turn w l₀ l i h r e =
+    rw (
+      e,
+      drop-cons l₀ i 0 (omega arith),
+      set-at (take i w) (getD l₀ i 0) (drop (suc i) l₀) (getD w i 0) i (length-take-le i w (omega arith)),
+      add-one,
+      take-suc w i 0 h,
+      append-assoc,
+    )
+
+pub put-end : (w l₀ l : List ℕ) (i : ℕ) → length w ≡ i → l ≡ take i w ++ drop i l₀ → l ≡ over w l₀
+put-end w l₀ l i e f = f ∙ rw (← e, take-all (length w) w (omega arith))
+
+-- ---- a part that is lent on, from a on to the end of the buffer
+
+abbrev pub partFrom : ℕ → List ℕ → List ℕ
+partFrom a l = take (length l - a) (drop a l)
+
+-- the buffer l when that part has become p
+abbrev pub partPut : ℕ → List ℕ → List ℕ → List ℕ
+partPut a l p = take a l ++ (p ++ drop (length l - a) (drop a l))
+
+part-is : (a : ℕ) (l : List ℕ) → partFrom a l ≡ drop a l
+part-is a l = let z = length-drop a l in take-all (length l - a) (drop a l) (omega (arith, z))
+
+pub length-from : (a : ℕ) (l : List ℕ) → length (partFrom a l) ≡ length l - a
+length-from a l = rw (part-is a l) (length-drop a l)
+
+put-behind : (a : ℕ) (l w : List ℕ) → partPut a l (over w (partFrom a l)) ≡ take a l ++ (w ++ drop (a + length w) l)
+put-behind a l w =
+    let z = length-drop a l in
+    rw (part-is a l, drop-of-length-le (drop a l) {i = length l - a} (omega (arith, z)), append-nil, drop-drop (length w) a l)
+
+-- where v stands over the beginning of l₀, w put behind it
+pub put-next : (a : ℕ) (l₀ l v w p : List ℕ) → l ≡ over v l₀ → length v ≡ a → p ≡ over w (partFrom a l)
+    → partPut a l p ≡ over (v ++ w) l₀
+put-next a l₀ l v w p e h q =
+    rw q (put-behind a l w
+    ∙ rw (
+      e,
+      take-at v (drop (length v) l₀) a h,
+      ← h,
+      drop-append-add v (drop (length v) l₀) (length w),
+      drop-drop (length w) (length v) l₀,
+      append-assoc,
+      length-append v w,
+    ))

@@ -1,0 +1,11 @@
+pub mod Order
+pub mod SheetBack
+pub mod Comparing
+pub mod Keys
+pub mod Merging
+pub mod Halves
+pub mod Raw
+pub mod Answers
+pub mod Examples
+pub mod Only
+pub mod Canonical

@@ -1,0 +1,113 @@
+// Writing the sheet with its clauses in a given order.
+use crate::words;
+use judgement::Written;
+ghost use mathlib.Core.Path.{_≡_};
+ghost use mathlib.Core.List.{map};
+ghost use Prim.Native.Nat.{_+_, _*_, _≤_};
+ghost use lib.ListN.{length};
+ghost use Rattle.judgement.specs.Sheet.{clauses};
+ghost use Rattle.judgement.specs.Facts.{ValidSheet};
+ghost use Rattle.judgement.specs.Writer.{pairsOf, joined};
+ghost use Rattle.judgement.specs.Buffer.{over, writtenBy, leftBy};
+ghost use Rattle.writer.specs.Canonical.{canonical, shortage};
+ghost use Rattle.writer.specs.Words.{Known, bodyOf, Words, SortedRange, headBytes};
+
+// How many bytes the bodies of these clauses have.
+fn bodies_size(s: &[u8], table: usize, order: &[u64]) -> usize
+    requires { ⌜ Known (now s) table × Words (now s) 0 (clauses (now s)) (now order) × (length (now order) ≤ 4096) ⌝ }
+    ensures { λ r. ⌜ r ≡ length (joined (map (bodyOf (now (s .entry))) (now (order .entry)))) ⌝ }
+{
+    let mut sum = 0;
+    let mut i = 0;
+    while i < order.len() {
+        let body = words::body_of(s, table, order[i]);
+        sum += body.len();
+        i += 1;
+    }
+    sum
+}
+
+// The pairs of these clauses, the first body at `start`.
+fn write_pairs(s: &[u8], table: usize, order: &[u64], start: usize, out: &mut [u8])
+    requires { ⌜ Known (now s) table × Words (now s) 0 (clauses (now s)) (now order)
+        × (8 * length (now order) ≤ length (now out))
+        × (start + length (joined (map (bodyOf (now s)) (now order))) ≤ 4294967295) ⌝ }
+    ensures { λ _. ⌜ now (out .exit) ≡ over (pairsOf start (map (bodyOf (now (s .entry))) (now (order .entry)))) (now (out .entry)) ⌝ }
+{
+    let mut next = start;
+    let mut i = 0;
+    while i < order.len() {
+        let body = words::body_of(s, table, order[i]);
+        let size = body.len();
+        let at = 8 * i;
+        layout::put_pair(&mut out[at..], next as u32, size as u32);
+        next += size;
+        i += 1;
+    }
+}
+
+// The bodies of these clauses, one after the other.
+fn write_bodies(s: &[u8], table: usize, order: &[u64], out: &mut [u8])
+    requires { ⌜ Known (now s) table × Words (now s) 0 (clauses (now s)) (now order)
+        × (length (joined (map (bodyOf (now s)) (now order))) ≤ length (now out)) ⌝ }
+    ensures { λ _. ⌜ now (out .exit) ≡ over (joined (map (bodyOf (now (s .entry))) (now (order .entry)))) (now (out .entry)) ⌝ }
+{
+    let mut at = 0;
+    let mut i = 0;
+    while i < order.len() {
+        let body = words::body_of(s, table, order[i]);
+        layout::put_bytes(&mut out[at..], body);
+        at += body.len();
+        i += 1;
+    }
+}
+
+// n and the costs as they stand in the sheet, and between them the number of clauses.
+fn write_head(s: &[u8], n: usize, count: u16, out: &mut [u8])
+    requires { ⌜ (n ≤ 1024) × (4 + 4 * n ≤ length (now s)) × (4 + 4 * n ≤ length (now out)) ⌝ }
+    ensures { λ _. ⌜ now (out .exit) ≡ over (headBytes (now (s .entry)) n count) (now (out .entry)) ⌝ }
+{
+    layout::put_bytes(out, &s[0..2]);
+    layout::put_u16(&mut out[2..], count);
+    let e = 4 + 4 * n;
+    layout::put_bytes(&mut out[4..], &s[4..e]);
+}
+
+// The sheet with the clauses in this order.
+fn write_order(s: &[u8], order: &[u64], out: &mut [u8])
+    requires { ⌜ ValidSheet (now s) × SortedRange (now s) 0 (clauses (now s)) (now order)
+        × (length (now order) ≤ 4096) × (length (canonical (now s)) ≤ length (now out)) ⌝ }
+    ensures { λ _. ⌜ now (out .exit) ≡ over (canonical (now (s .entry))) (now (out .entry)) ⌝ }
+{
+    let n = sheet::variable_count(s) as usize;
+    let q = order.len();
+    write_head(s, n, q as u16, out);
+    let table = 4 + 4 * n;
+    let start = table + 8 * q;
+    write_pairs(s, table, order, start, &mut out[table..]);
+    write_bodies(s, table, order, &mut out[start..]);
+}
+
+// The same where the buffer is long enough, which is known before the first byte is written.
+pub(crate) fn write_if_room(s: &[u8], order: &[u64], out: &mut [u8]) -> Written
+    requires { ⌜ ValidSheet (now s) × SortedRange (now s) 0 (clauses (now s)) (now order) × (length (now order) ≤ 4096) ⌝ }
+    ensures { λ r. ⌜ (r ≡ writtenBy (shortage (now (s .entry)) (length (now (out .entry)))) (canonical (now (s .entry))))
+        × (now (out .exit) ≡ leftBy (shortage (now (s .entry)) (length (now (out .entry)))) (canonical (now (s .entry))) (now (out .entry))) ⌝ }
+{
+    let n = sheet::variable_count(s) as usize;
+    let table = 4 + 4 * n;
+    let size = table + 8 * order.len() + bodies_size(s, table, order);
+    if out.len() < size {
+        return Written {
+            number: 25,
+            place: 0,
+            length: 0,
+        };
+    }
+    write_order(s, order, out);
+    Written {
+        number: 0,
+        place: 0,
+        length: size,
+    }
+}
