@@ -2,9 +2,10 @@
  *
  * A file is its bytes and their number; any bytes are answered for, also none: with the number 0 nothing is read through the
  * pointer, which may be NULL. The calls only read the files, keep nothing, and may be made from several threads at once. The
- * two files may overlap, or be one. The array that a call writes, answer or part, may not overlap either file, nor the array
- * of a call that is made at the same time; it may not be NULL. The same goes for the buffer that plan_write_sheet writes, out,
- * which may not overlap its answer either; but where it has no bytes, out may be NULL. */
+ * two files may overlap, or be one. The array that a call writes, answer or part, may not overlap either file, nor what a call
+ * that is made at the same time reads or writes; it may not be NULL. The same goes for the buffer that plan_write_sheet writes,
+ * out, which may not overlap its answer either; but where it has no bytes, out may be NULL. A call takes less than 88 KB of
+ * stack. */
 #ifndef PLAN_H
 #define PLAN_H
 
@@ -39,8 +40,8 @@ void plan_show(const uint8_t *sheet, size_t sheet_len, const uint8_t *record, si
 /* The places of the writer's numbers: PLAN_NUMBER and PLAN_PLACE, and then this one. */
 enum { PLAN_LENGTH = 2 };
 
-/* Writes a sheet in the one way: the same variables and costs, and the clauses sorted by their codes, a shorter list before
- * those that it begins, each clause once. Two sheets are written as the same bytes exactly where their variables, costs and
+/* Writes a sheet in the one way: the same variables and costs, and the clauses sorted by their codes, a list before the longer
+ * ones that begin with it, each clause once. Two sheets are written as the same bytes exactly where their variables, costs and
  * sets of clauses are the same, and what was written once stays as it is when it is written again.
  *
  * Where the number is 0, out begins with the written sheet, of so many bytes as the length says, and the bytes behind it stay
@@ -48,7 +49,7 @@ enum { PLAN_LENGTH = 2 };
  * out is too short, with its place; the length is 0, and all of out stays as it was. A buffer as long as the sheet is always
  * enough.
  *
- * The clauses' numbers move, so that a record keeps to its own sheet: the one that it was made for. */
+ * Clauses may get other numbers, so that a record goes with the sheet that it was made for. */
 void plan_write_sheet(const uint8_t *sheet, size_t sheet_len, uint8_t *out, size_t out_len, uint64_t answer[3]);
 
 #ifdef __cplusplus

@@ -67,7 +67,8 @@ fn put_written(w: Written, out: &mut [u64])
     out[2] = w.length as u64;
 }
 
-// Writes the sheet in the one way at the beginning of `out`: number, place and the number of bytes written.
+// Writes the sheet in the one way at the beginning of `out`: number, place and the number of bytes written. What these and the
+// buffer come to is in the contract of `writer::write_sheet`.
 #[no_mangle]
 pub extern "C" fn plan_write_sheet(sheet: &[u8], out: &mut [u8], answer: &mut [u64; 3])
     ensures answer { λ _. ⌜ now (answer .exit) ≡ writtenNumbers (writing (now (sheet .entry)) (length (now (out .entry)))) ⌝ }

@@ -2,6 +2,7 @@
 pub mod Scan
 pub mod Findings
 pub mod Answers
+pub mod Members
 pub mod Membership
 pub mod Models
 pub mod Lists

@@ -1,26 +1,21 @@
 -- Stored numbers byte by byte, and where there is no room for them.
 -- Assumes nothing.
 use Prim.Native.Nat.{ℕ, _/_, _%_, _^_, _≤_, _<_}
-use mathlib.Core.Path.{_≡_, refl, sym, ap, _∙_}
+use mathlib.Core.Path.{_≡_, sym, ap, _∙_}
 use mathlib.Core.List.{List, [], _∷_, _++_}
 use native.Mathlib.Omega.{arith}
 use lib.ListN.{length, set, length-append}
+use lib.Seq.{sets-eq}
 use Rattle.judgement.specs.Writer.{bytesOf}
 use Rattle.judgement.specs.Buffer.{over, put}
 use Rattle.judgement.proofs.Complete.Bytes.{length-bytes}
 use Rattle.judgement.proofs.Laws.Buffer.{put-room, put-short, length-over, length-from, partFrom, partPut, put-next}
 
 two-stores : (a b : ℕ) (l : List ℕ) → 2 ≤ length l → set (set l 0 a) 1 b ≡ over (a ∷ b ∷ []) l
-two-stores a b [] h = absurd (omega arith)
-two-stores a b (x ∷ []) h = absurd (omega arith)
-two-stores a b (x ∷ y ∷ l) h = refl
+two-stores a b l h = sets-eq (a ∷ b ∷ []) l 0 (omega arith)
 
 four-stores : (a b c d : ℕ) (l : List ℕ) → 4 ≤ length l → set (set (set (set l 0 a) 1 b) 2 c) 3 d ≡ over (a ∷ b ∷ c ∷ d ∷ []) l
-four-stores a b c d [] h = absurd (omega arith)
-four-stores a b c d (x ∷ []) h = absurd (omega arith)
-four-stores a b c d (x ∷ y ∷ []) h = absurd (omega arith)
-four-stores a b c d (x ∷ y ∷ z ∷ []) h = absurd (omega arith)
-four-stores a b c d (x ∷ y ∷ z ∷ u ∷ l) h = refl
+four-stores a b c d l h = sets-eq (a ∷ b ∷ c ∷ d ∷ []) l 0 (omega arith)
 
 two-bytes : (x : ℕ) → x < 2 ^ 16 → bytesOf 2 x ≡ x % 256 ∷ x / 256 ∷ []
 unfolding bytesOf

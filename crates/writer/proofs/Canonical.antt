@@ -16,10 +16,11 @@ use Rattle.judgement.specs.Literals.{count, code, codesIn, holds}
 use Rattle.judgement.specs.declared.Finding.the-variants.{Fine}
 use Rattle.judgement.specs.Sheet.{variables, clauses, clausePairsAt, costOf, clause, problemOf, aloneFinding}
 use Rattle.judgement.specs.Writer.{bytesOf, numbersOf, pairsOf, joined, fileOf, sheetOf}
-use Rattle.judgement.specs.Facts.{Among, In, PairRule, LiteralList, ValidSheet}
+use Rattle.judgement.specs.Facts.{Among, OneOf, In, PairRule, LiteralList, ValidSheet}
 use Rattle.judgement.specs.Demands.{IsBytes}
 use Rattle.judgement.proofs.Laws.Scan.{sum-same, sum-most, length-list, list-at, list-same}
 use Rattle.judgement.proofs.Laws.Stored.{number-below}
+use Rattle.judgement.proofs.Laws.Members.{one-at}
 use Rattle.judgement.proofs.Laws.Membership.{holds-in, in-holds}
 use Rattle.judgement.proofs.Facts.Copy.{members-same}
 use Rattle.judgement.proofs.Complete.Typed.{Ascending}
@@ -32,13 +33,13 @@ use Rattle.judgement.proofs.Complete.Written.{pairs-bytes}
 use Rattle.judgement.proofs.Complete.Stored.{codes-back, in-codes, in-member, ascending-fits, ascending-list}
 use Rattle.writer.specs.declared.Comparison.{Comparison}
 use Rattle.writer.specs.declared.Comparison.the-variants.{Before, Same, After}
-use Rattle.writer.specs.Order.{Precedes, OneOf, Rises, clauseCodes}
+use Rattle.writer.specs.Order.{Precedes, Rises, clauseCodes}
 use Rattle.writer.specs.Sorted.{compare, byCase, insert, sorted}
 use Rattle.writer.specs.Canonical.{ordered, canonical, writeFinding, shortage, writing, leaves}
 use Rattle.writer.specs.Promises.{ClausesWithin, SameProblem, OneWay}
 use Rattle.writer.proofs.Order.{sorted-rises, sorted-has, sorted-from, in-order, in-order-same}
 use Rattle.writer.proofs.Only.{in-place}
-use Rattle.writer.proofs.SheetBack.{headOf, sizeOf, size-is, length-sheet, back-variables, back-clauses, back-cost, back-clause, back-valid}
+use Rattle.writer.proofs.SheetBack.{headOf, sizeOf, length-sheet, back-variables, back-clauses, back-cost, back-clause, back-valid}
 
 -- stored lists with the same literals have the same codes
 codes-same : (n : ℕ) (part other : List ℕ) → LiteralList n part → LiteralList n other → ((c : ℕ) → In part c ↔ In other c)
@@ -127,17 +128,12 @@ written-size f at k =
     let c = length-take (pairLength f at k) (drop (pairOffset f at k) f) in
     omega (arith, a, b, c)
 
--- ---- members of a list of lists by their place
-
-nth-of : (l : List (List ℕ)) (i : ℕ) → i < length l → OneOf (getD l i []) l
-nth-of [] i h = absurd (omega arith)
-nth-of (x ∷ l) zero h = inl refl
-nth-of (x ∷ l) (suc i) h = inr (nth-of l i (omega arith))
+-- ---- a list that rises, by its places
 
 rises-at : (l : List (List ℕ)) → Rises l → (i j : ℕ) → i < j → j < length l → Precedes (getD l i []) (getD l j [])
 rises-at [] r i j h k = absurd (omega arith)
 rises-at (x ∷ l) r zero zero h k = absurd (omega arith)
-rises-at (x ∷ l) r zero (suc j) h k = r .0 (getD l j []) (nth-of l j (omega arith))
+rises-at (x ∷ l) r zero (suc j) h k = r .0 (getD l j []) (one-at l j [] (omega arith))
 rises-at (x ∷ l) r (suc i) zero h k = absurd (omega arith)
 rises-at (x ∷ l) r (suc i) (suc j) h k = rises-at l (r .1) i j (omega arith) (omega arith)
 
@@ -190,8 +186,7 @@ module _ (s : List ℕ) (valid : ValidSheet s) where
       let c = lengths-fill s (clausePairsAt s) (clauses s) (valid .pairs) in
       let d = m-fits in
       let e = costs-count in
-      let z = size-is costs bodies in
-      omega (arith, a, b, c, d, e, z)
+      omega (arith, a, b, c, d, e)
 
   size-top : sizeOf costs bodies ≤ 4294967295
   size-top = let a = size-fits in let b = valid .size in omega (arith, a, b)
@@ -220,7 +215,7 @@ module _ (s : List ℕ) (valid : ValidSheet s) where
       (back-valid costs bodies n-fits m-top size-top (rw costs-count (valid .n .0))
       (λ k w. rw (body-at k, costs-count)
       (ascending-list (variables s) (getD lists (k - 1) []) (valid .n .1)
-      (ascends (getD lists (k - 1) []) (nth-of lists (k - 1) (let e = bodies-count in omega (arith, e, w .0, w .1)))))))
+      (ascends (getD lists (k - 1) []) (one-at lists (k - 1) [] (let e = bodies-count in omega (arith, e, w .0, w .1)))))))
 
   canonical-clauses : clauses (canonical s) ≡ length lists
   canonical-clauses = rw is-written (back-clauses costs bodies n-fits m-top size-top ∙ bodies-count)
@@ -233,7 +228,7 @@ module _ (s : List ℕ) (valid : ValidSheet s) where
   canonical-codes k w =
       let b = getD lists (k - 1) [] in
       rw (canonical-clause k w)
-      (codes-back b (ascending-fits (variables s) b (valid .n .1) (ascends b (nth-of lists (k - 1) (omega (arith, w .0, w .1))))))
+      (codes-back b (ascending-fits (variables s) b (valid .n .1) (ascends b (one-at lists (k - 1) [] (omega (arith, w .0, w .1))))))
 
   canonical-rises : (j k : ℕ) → 1 ≤ j → j < k → k ≤ clauses (canonical s)
       → Precedes (clauseCodes (canonical s) j) (clauseCodes (canonical s) k)
@@ -276,7 +271,7 @@ module _ (s : List ℕ) (valid : ValidSheet s) where
   unfolding lists
   clauses-back j w =
       let w : Among (length lists) j = rw canonical-clauses at w in
-      let (k, v, e) = sorted-from (clauseCodes s) (clauses s) (getD lists (j - 1) []) (nth-of lists (j - 1) (omega (arith, w .0, w .1))) in (
+      let (k, v, e) = sorted-from (clauseCodes s) (clauses s) (getD lists (j - 1) []) (one-at lists (j - 1) [] (omega (arith, w .0, w .1))) in (
         k,
         v,
         λ c.

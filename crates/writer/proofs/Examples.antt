@@ -37,7 +37,7 @@ a-from-another : canonical otherA ≡ sheetA
 unfolding sheetA listOf numberAt body bytesOf numbersOf pairsOf joined fileOf sheetOf compare insert sorted canonical
 a-from-another = refl
 
--- a list before those that it begins, the empty one first
+-- a list before those that begin with it, the empty one first
 short-first : canonical (sheetOf (3 ∷ 5 ∷ []) (first ∷ (2 ∷ 0 ∷ []) ∷ [] ∷ []))
     ≡ sheetOf (3 ∷ 5 ∷ []) ([] ∷ (2 ∷ 0 ∷ []) ∷ first ∷ [])
 unfolding listOf numberAt body bytesOf numbersOf pairsOf joined fileOf sheetOf compare insert sorted canonical

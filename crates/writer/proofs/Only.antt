@@ -9,13 +9,13 @@ use native.Mathlib.Decide.{decLt}
 use lib.ListN.{length, take, drop, length-take, length-drop, take-append-drop, drop-of-length-le}
 use lib.Seq.{take-add, drop-drop}
 use Rattle.judgement.specs.Pairs.{pairOffset, pairLength, body}
-use Rattle.judgement.specs.Sheet.{variables, clauses, clausePairsAt}
+use Rattle.judgement.specs.Sheet.{clauses, clausePairsAt}
 use Rattle.judgement.specs.Writer.{bytesOf, pairsOf, joined, fileOf}
-use Rattle.judgement.specs.Facts.{PairRule, ValidSheet}
+use Rattle.judgement.specs.Facts.{OneOf, PairRule, ValidSheet}
 use Rattle.judgement.specs.Demands.{IsBytes}
 use Rattle.judgement.proofs.Laws.Stored.{bytes-again}
 use Rattle.judgement.proofs.Facts.Shown.{body-ends}
-use Rattle.writer.specs.Order.{OneOf, Leads, Rises, clauseCodes, InPlace}
+use Rattle.writer.specs.Order.{Leads, Rises, clauseCodes, InPlace}
 use Rattle.writer.specs.Canonical.{canonical}
 use Rattle.writer.specs.Words.{wordOf, numberOf, codesOf, bodyOf, Words, SortedRange, headBytes}
 use Rattle.writer.proofs.Merging.{words-wider}
@@ -46,19 +46,19 @@ module _ (f : List ℕ) (bytes : IsBytes f) (at m : ℕ) (room : at + 8 * m ≤ 
       omega (arith, e, t, d)
 
   -- where the next body begins
-  next-start : (k start : ℕ) → k < m → pairOffset f at (suc k) ≡ start → suc k < m
+  next-start : (k start : ℕ) → pairOffset f at (suc k) ≡ start → suc k < m
       → pairOffset f at (suc (suc k)) ≡ start + pairLength f at (suc k)
-  next-start k start l o n =
+  next-start k start o n =
       let z : suc k + 1 ≡ suc (suc k) = omega arith in
       let r = rw z at (rule .later (suc k) (omega arith) n) in
       r ∙ rw o
 
   next-offset : (k start : ℕ) → k < m → pairOffset f at (suc k) ≡ start → suc k < m
       → pairOffset f at (suc (suc k)) ≡ start + length (body f at (suc k))
-  next-offset k start l o n = next-start k start l o n ∙ rw (size k l)
+  next-offset k start l o n = next-start k start o n ∙ rw (size k l)
 
-  last-end : (k start : ℕ) → k < m → pairOffset f at (suc k) ≡ start → suc k ≡ m → start + pairLength f at (suc k) ≡ length f
-  last-end k start l o n =
+  last-end : (k start : ℕ) → pairOffset f at (suc k) ≡ start → suc k ≡ m → start + pairLength f at (suc k) ≡ length f
+  last-end k start o n =
       let r = rw (← n) at (rule .last (omega arith)) in
       rw (← o) r
 
@@ -81,7 +81,6 @@ module _ (f : List ℕ) (bytes : IsBytes f) (at m : ℕ) (room : at + 8 * m ≤ 
   pairs-are k (suc q) start e h =
       let l : k < m = omega arith in
       let o = h l in
-      let s = size k l in
       let r = pairs-are (suc k) q (start + length (body f at (suc k))) (omega arith) (next-offset k start l o) in
       pair-is k l ∙ rw (o, r) (simp append-assoc)
 
@@ -93,7 +92,7 @@ module _ (f : List ℕ) (bytes : IsBytes f) (at m : ℕ) (room : at + 8 * m ≤ 
   bodies-are k (suc q) start e h g =
       let l : k < m = omega arith in
       let o = h l in
-      let r = bodies-are (suc k) q (start + pairLength f at (suc k)) (omega arith) (λ n. next-start k start l o n) (λ n. last-end k start l o n) in
+      let r = bodies-are (suc k) q (start + pairLength f at (suc k)) (omega arith) (next-start k start o) (last-end k start o) in
       split-at f start (pairLength f at (suc k)) ∙ rw (o, r)
 
   first-offset : 0 < m → pairOffset f at 1 ≡ at + 8 * m
@@ -177,23 +176,23 @@ module _ (s : List ℕ) (few : clauses s < 65536) (order : InPlace s) where
   }
 
 -- what stands before the pairs
-head-stands : (s : List ℕ) → IsBytes s → ValidSheet s → headBytes s (variables s) (clauses s) ≡ take (clausePairsAt s) s
+head-stands : (s : List ℕ) (table : ℕ) → IsBytes s → 4 ≤ table → table ≤ length s → headBytes s table (clauses s) ≡ take table s
 unfolding headBytes
-head-stands s bytes valid =
-    let r = valid .room in
-    let z : 4 + 4 * variables s ≡ 2 + (2 + 4 * variables s) = omega arith in
-    rw (bytes-again 2 s bytes 2 (omega arith), z, take-add 2 (2 + 4 * variables s) s, take-add 2 (4 * variables s) (drop 2 s), drop-drop 2 2 s, append-assoc)
+head-stands s table bytes four h =
+    let z : table ≡ 2 + (2 + (table - 4)) = omega arith in
+    rw (bytes-again 2 s bytes 2 (omega arith))
+    (sym (ap (λ (n : ℕ). take n s) z
+    ∙ rw (take-add 2 (2 + (table - 4)) s, take-add 2 (table - 4) (drop 2 s), drop-drop 2 2 s, append-assoc)))
 
 pub in-place : (s : List ℕ) → ValidSheet s → IsBytes s → InPlace s → canonical s ≡ s
 unfolding fileOf
 in-place s valid bytes order =
-    let m = valid .m in
     let w = wordsFrom s 0 (clauses s) in
-    let h = head-stands s bytes valid in
     let room = valid .room in
+    let h = head-stands s (clausePairsAt s) bytes (omega arith) (omega arith) in
     let l : length (take (clausePairsAt s) s) ≡ clausePairsAt s = length-take (clausePairsAt s) s ∙ omega arith in
     let b = from-bodies s 0 (clauses s) (omega arith) in
     let p = from-pairs s bytes (clausePairsAt s) (clauses s) room (valid .pairs) in
-    raw-canonical s valid bytes w (stands s (omega arith) order)
+    raw-canonical s (clausePairsAt s) (record { valid = valid; pairs = refl }) bytes w (stands s (omega arith) order)
     ∙ rw (from-length s 0 (clauses s), h, b, l, bodies-length s (clausePairsAt s) 0 (clauses s), append-assoc, ← p)
     (take-append-drop (clausePairsAt s) s)

@@ -11,7 +11,7 @@ use Rattle.judgement.specs.Pairs.{pairOffset, pairLength, body}
 use Rattle.judgement.specs.Sheet.{variables, clauses, clausePairsAt, costOf, clause}
 use Rattle.judgement.specs.Writer.{bytesOf, numbersOf, pairsOf, joined, fileOf, sheetOf}
 use Rattle.judgement.specs.Buffer.{over, put}
-use Rattle.judgement.specs.Facts.{Among, ValidSheet}
+use Rattle.judgement.specs.Facts.{Among, OneOf, ValidSheet}
 use Rattle.judgement.specs.Demands.{IsBytes}
 use Rattle.judgement.proofs.Laws.Scan.{length-list}
 use Rattle.judgement.proofs.Laws.Stored.{part-bytes, bytes-again, numbers-again, body-again}
@@ -19,7 +19,7 @@ use Rattle.judgement.proofs.Laws.Buffer.{length-over, put-room, partFrom, partP
 use Rattle.judgement.proofs.Complete.Bytes.{length-bytes}
 use Rattle.judgement.proofs.Laws.Table.{file-written}
 use Rattle.judgement.proofs.Complete.Tables.{length-file}
-use Rattle.writer.specs.Order.{OneOf, clauseCodes}
+use Rattle.writer.specs.Order.{clauseCodes}
 use Rattle.writer.specs.Canonical.{ordered, canonical}
 use Rattle.writer.specs.Words.{Known, numberOf, codesOf, bodyOf, Words, SortedRange, headBytes}
 use Rattle.writer.proofs.Order.{one-order}
@@ -35,16 +35,15 @@ clause-size s k =
 
 -- ---- what stands before the pairs
 
-pub head-written : (s : List ℕ) (n count : ℕ) (out₀ out p q : List ℕ) → 4 + 4 * n ≤ length s → 4 + 4 * n ≤ length out₀
+pub head-written : (s : List ℕ) (table count : ℕ) (out₀ out p q : List ℕ) → 4 ≤ table → table ≤ length s → table ≤ length out₀
     → out ≡ put (take (2 - 0) (drop 0 s)) out₀ → p ≡ put (bytesOf 2 count) (partFrom 2 out)
-    → q ≡ put (take (4 + 4 * n - 4) (drop 4 s)) (partFrom 4 (partPut 2 out p))
-    → partPut 4 (partPut 2 out p) q ≡ over (headBytes s n count) out₀
+    → q ≡ put (take (table - 4) (drop 4 s)) (partFrom 4 (partPut 2 out p))
+    → partPut 4 (partPut 2 out p) q ≡ over (headBytes s table count) out₀
 unfolding headBytes
-head-written s n count out₀ out p q h room eo ep eq =
+head-written s table count out₀ out p q four h room eo ep eq =
     let l : length (take 2 s) ≡ 2 = length-take 2 s ∙ omega arith in
     let m : length (take 2 s ++ bytesOf 2 count) ≡ 4 = rw (length-append, l, length-bytes 2 count) in
     let b = length-bytes 2 count in
-    let z : 4 + 4 * n - 4 ≡ 4 * n = omega arith in
     let first : out ≡ over (take 2 s) out₀ = eo ∙ put-room (take 2 s) out₀ (omega arith) in
     let size : length out ≡ length out₀ = ap length first ∙ length-over (take 2 s) out₀ (omega arith) in
     let from = length-from 2 out in
@@ -52,9 +51,9 @@ head-written s n count out₀ out p q h room eo ep eq =
     put-next 2 out₀ out (take 2 s) (bytesOf 2 count) p first l (ep ∙ put-room (bytesOf 2 count) (partFrom 2 out) (omega (arith, from, size, b))) in
     let size-2 : length (partPut 2 out p) ≡ length out₀ = ap length second ∙ length-over (take 2 s ++ bytesOf 2 count) out₀ (omega (arith, m)) in
     let from-2 = length-from 4 (partPut 2 out p) in
-    let cost = length-take (4 * n) (drop 4 s) in
-    put-next 4 out₀ (partPut 2 out p) (take 2 s ++ bytesOf 2 count) (take (4 * n) (drop 4 s)) q second m
-    (rw z at eq ∙ put-room (take (4 * n) (drop 4 s)) (partFrom 4 (partPut 2 out p)) (omega (arith, from-2, size-2, cost)))
+    let rest = length-take (table - 4) (drop 4 s) in
+    put-next 4 out₀ (partPut 2 out p) (take 2 s ++ bytesOf 2 count) (take (table - 4) (drop 4 s)) q second m
+    (eq ∙ put-room (take (table - 4) (drop 4 s)) (partFrom 4 (partPut 2 out p)) (omega (arith, from-2, size-2, rest)))
 
 -- ---- the clauses
 
@@ -78,12 +77,9 @@ clauses-again s b v (w ∷ l) r = rw (clause-again s b v (numberOf w) (r .0, r .
 zero-more : (s l : List ℕ) → Words s 0 (0 + clauses s) l → Words s 0 (clauses s) l
 zero-more s l r = let e : 0 + clauses s ≡ clauses s = omega arith in rw e at r
 
-pub known-by : (s : List ℕ) {n : ℕ} → ValidSheet s → n ≡ variables s → Known s (4 + 4 * n)
-known-by s v e = record { valid = v; pairs = rw e }
-
 -- ---- the canonical sheet
 
-module _ (s : List ℕ) (valid : ValidSheet s) (bytes : IsBytes s) (order : List ℕ) (range : SortedRange s 0 (clauses s) order) where
+module _ (s : List ℕ) (table : ℕ) (known : Known s table) (bytes : IsBytes s) (order : List ℕ) (range : SortedRange s 0 (clauses s) order) where
   pub raw-words : Words s 0 (clauses s) order
   raw-words = zero-more s order (range .words)
 
@@ -97,37 +93,37 @@ module _ (s : List ℕ) (valid : ValidSheet s) (bytes : IsBytes s) (order : List
       })
 
   bodies-are : map (numbersOf 2) (ordered s) ≡ map (bodyOf s) order
-  bodies-are = ap (map (numbersOf 2)) (sym order-is) ∙ clauses-again s bytes valid order raw-words
+  bodies-are = ap (map (numbersOf 2)) (sym order-is) ∙ clauses-again s bytes (known .valid) order raw-words
 
-  costs-are : numbersOf 4 (listOf (costOf s) (variables s)) ≡ take (4 * variables s) (drop 4 s)
-  costs-are = let r = valid .room in numbers-again 4 s bytes 4 (variables s) (omega arith)
+  costs-are : numbersOf 4 (listOf (costOf s) (variables s)) ≡ take (table - 4) (drop 4 s)
+  costs-are =
+      let e : table - 4 ≡ 4 * variables s = let p = known .pairs in omega (arith, p) in
+      rw e (numbers-again 4 s bytes 4 (variables s) (omega arith))
 
-  head-is : headOf (listOf (costOf s) (variables s)) (length order) ≡ headBytes s (variables s) (length order)
+  head-is : headOf (listOf (costOf s) (variables s)) (length order) ≡ headBytes s table (length order)
   unfolding headBytes
-  head-is =
-      let r = valid .room in
-      rw (length-list (costOf s) (variables s), costs-are, bytes-again 2 s bytes 0 (omega arith))
+  head-is = rw (length-list (costOf s) (variables s), costs-are, bytes-again 2 s bytes 0 (omega arith))
 
-  length-head-bytes : length (headBytes s (variables s) (length order)) ≡ 4 + 4 * variables s
+  length-head-bytes : length (headBytes s table (length order)) ≡ table
   length-head-bytes =
-      rw (← head-is) (length-head (listOf (costOf s) (variables s)) (length order) ∙ rw (length-list (costOf s) (variables s)))
+      rw (← head-is)
+      (length-head (listOf (costOf s) (variables s)) (length order) ∙ rw (length-list (costOf s) (variables s)) (sym (known .pairs)))
 
-  pub raw-canonical : canonical s ≡ fileOf (headBytes s (variables s) (length order)) (map (bodyOf s) order)
+  pub raw-canonical : canonical s ≡ fileOf (headBytes s table (length order)) (map (bodyOf s) order)
   unfolding canonical sheetOf
   raw-canonical = rw (bodies-are, length-map order (bodyOf s), head-is)
 
-  pub raw-size : length (canonical s) ≡ 4 + 4 * variables s + 8 * length order + length (joined (map (bodyOf s) order))
+  pub raw-size : length (canonical s) ≡ table + 8 * length order + length (joined (map (bodyOf s) order))
   raw-size =
       rw raw-canonical
-      (length-file (headBytes s (variables s) (length order)) (map (bodyOf s) order)
-      ∙ rw (length-head-bytes, length-map order (bodyOf s)))
+      (length-file (headBytes s table (length order)) (map (bodyOf s) order) ∙ rw (length-head-bytes, length-map order (bodyOf s)))
 
   -- three writes one behind the other
-  pub written-all : (n : ℕ) (out₀ out p q : List ℕ) → n ≡ variables s → out ≡ over (headBytes s n (length order)) out₀
-      → p ≡ over (pairsOf (4 + 4 * n + 8 * length order) (map (bodyOf s) order)) (partFrom (4 + 4 * n) out)
-      → q ≡ over (joined (map (bodyOf s) order)) (partFrom (4 + 4 * n + 8 * length order) (partPut (4 + 4 * n) out p))
-      → partPut (4 + 4 * n + 8 * length order) (partPut (4 + 4 * n) out p) q ≡ over (canonical s) out₀
-  written-all n out₀ out p q en eo ep eq =
-      file-written (headBytes s n (length order)) (map (bodyOf s) order) (4 + 4 * n) (4 + 4 * n + 8 * length order) out₀ out p q
-      (rw en length-head-bytes) (rw (length-map order (bodyOf s))) eo ep eq
-      ∙ rw (raw-canonical, en)
+  pub written-all : (out₀ out p q : List ℕ) → out ≡ over (headBytes s table (length order)) out₀
+      → p ≡ over (pairsOf (table + 8 * length order) (map (bodyOf s) order)) (partFrom table out)
+      → q ≡ over (joined (map (bodyOf s) order)) (partFrom (table + 8 * length order) (partPut table out p))
+      → partPut (table + 8 * length order) (partPut table out p) q ≡ over (canonical s) out₀
+  written-all out₀ out p q eo ep eq =
+      file-written (headBytes s table (length order)) (map (bodyOf s) order) table (table + 8 * length order) out₀ out p q
+      length-head-bytes (rw (length-map order (bodyOf s))) eo ep eq
+      ∙ rw raw-canonical

@@ -1,7 +1,7 @@
 -- A written sheet reads back: n, m, costs and clauses, and it is valid where its lists are.
 -- Assumes nothing.
 use Prim.Native.Nat.{ℕ, suc, _+_, _-_, _*_, _^_, _≤_, _<_}
-use mathlib.Core.Path.{_≡_, refl, sym, _∙_}
+use mathlib.Core.Path.{_≡_, sym, _∙_}
 use mathlib.Core.List.{List, [], _++_, append-assoc}
 use native.Mathlib.Omega.{arith}
 use lib.ListN.{length, getD, drop, length-append}
@@ -21,15 +21,11 @@ length-head costs m =
     rw (length-append, length-append, length-bytes 2 (length costs), length-bytes 2 m, length-numbers 4 costs) (omega arith)
 
 -- the size of the file
-pub sizeOf : List ℕ → List (List ℕ) → ℕ
+abbrev pub sizeOf : List ℕ → List (List ℕ) → ℕ
 sizeOf costs bodies = 4 + 4 * length costs + 8 * length bodies + length (joined bodies)
 
-pub size-is : (costs : List ℕ) (bodies : List (List ℕ)) → sizeOf costs bodies ≡ 4 + 4 * length costs + 8 * length bodies + length (joined bodies)
-unfolding sizeOf
-size-is costs bodies = refl
-
 pub length-sheet : (costs : List ℕ) (bodies : List (List ℕ)) → length (sheetOf costs bodies) ≡ sizeOf costs bodies
-unfolding sheetOf sizeOf
+unfolding sheetOf
 length-sheet costs bodies = length-file (headOf costs (length bodies)) bodies ∙ rw (length-head costs (length bodies))
 
 module _ (costs : List ℕ) (bodies : List (List ℕ))
@@ -74,9 +70,7 @@ module _ (costs : List ℕ) (bodies : List (List ℕ))
   pairs-at = rw back-variables (sym (length-head costs (length bodies)))
 
   table-fits : length (headOf costs (length bodies)) + 8 * length bodies + length (joined bodies) < 256 ^ 4
-  table-fits =
-      let z = size-is costs bodies in
-      rw (length-head costs (length bodies)) (omega (arith, z))
+  table-fits = rw (length-head costs (length bodies)) (omega arith)
 
   pub back-clause : (k : ℕ) → Among (length bodies) k → clause written k ≡ getD bodies (k - 1) []
   unfolding sheetOf
@@ -89,13 +83,12 @@ module _ (costs : List ℕ) (bodies : List (List ℕ))
   pub back-valid : 1 ≤ length costs
       → ((k : ℕ) → Among (length bodies) k → LiteralList (length costs) (getD bodies (k - 1) [])) → ValidSheet written
   back-valid some lists =
-      let z = size-is costs bodies in
       let l = length-sheet costs bodies in
       record {
         size = omega (arith, l);
         n = rw back-variables (some, n-fits);
         m = rw back-clauses m-fits;
-        room = rw (back-variables, back-clauses) (omega (arith, z, l));
+        room = rw (back-variables, back-clauses) (omega (arith, l));
         pairs = back-pairs;
         lists = λ k w.
             (let w = rw back-clauses at w in

@@ -29,7 +29,7 @@ struct Meeting {
     second: usize,
 }
 
-// The answer to a finding that is a fault.
+// The answer after a finding where nothing is written.
 fn refused(f: Finding) -> Written
     ensures { λ r. ⌜ r ≡ writtenBy f [] ⌝ }
 {
@@ -48,7 +48,7 @@ fn refused(f: Finding) -> Written
 }
 
 // Writes the sheet in the one way at the beginning of `out`. Refusals 1 to 4 of the sheet, and 25 where `out` is too short,
-// leave it as it is.
+// leave it as it is. `order` and `oneway` speak of the definitions, and by the other three clauses of this call.
 pub fn write_sheet(sheet: &[u8], out: &mut [u8]) -> Written
     ensures answer { λ r. ⌜ r ≡ writing (now (sheet .entry)) (length (now (out .entry))) ⌝ }
     ensures buffer { λ _. ⌜ now (out .exit) ≡ leaves (now (sheet .entry)) (now (out .entry)) ⌝ }
@@ -64,6 +64,7 @@ pub fn write_sheet(sheet: &[u8], out: &mut [u8]) -> Written
     let mut temp = [0u64; 4096];
     let m = sheet::clause_count(sheet) as usize;
     let table = sheet::clause_pairs_at(sheet) as usize;
-    let q = sort::sort_range(sheet, table, 0, m, &mut order, &mut temp);
-    put::write_if_room(sheet, &order[0..q], out)
+    let skip = words::shared(sheet, table, m);
+    let q = sort::sort_range(sheet, table, skip, 0, m, &mut order, &mut temp);
+    put::write_if_room(sheet, table, &order[0..q], out)
 }

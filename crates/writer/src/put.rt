@@ -6,7 +6,6 @@ ghost use mathlib.Core.List.{map};
 ghost use Prim.Native.Nat.{_+_, _*_, _≤_};
 ghost use lib.ListN.{length};
 ghost use Rattle.judgement.specs.Sheet.{clauses};
-ghost use Rattle.judgement.specs.Facts.{ValidSheet};
 ghost use Rattle.judgement.specs.Writer.{pairsOf, joined};
 ghost use Rattle.judgement.specs.Buffer.{over, writtenBy, leftBy};
 ghost use Rattle.writer.specs.Canonical.{canonical, shortage};
@@ -62,40 +61,35 @@ fn write_bodies(s: &[u8], table: usize, order: &[u64], out: &mut [u8])
     }
 }
 
-// n and the costs as they stand in the sheet, and between them the number of clauses.
-fn write_head(s: &[u8], n: usize, count: u16, out: &mut [u8])
-    requires { ⌜ (n ≤ 1024) × (4 + 4 * n ≤ length (now s)) × (4 + 4 * n ≤ length (now out)) ⌝ }
-    ensures { λ _. ⌜ now (out .exit) ≡ over (headBytes (now (s .entry)) n count) (now (out .entry)) ⌝ }
+// What stands before the pairs of the sheet, with another number of clauses.
+fn write_head(s: &[u8], table: usize, count: u16, out: &mut [u8])
+    requires { ⌜ (4 ≤ table) × (table ≤ length (now s)) × (table ≤ length (now out)) ⌝ }
+    ensures { λ _. ⌜ now (out .exit) ≡ over (headBytes (now (s .entry)) table count) (now (out .entry)) ⌝ }
 {
     layout::put_bytes(out, &s[0..2]);
     layout::put_u16(&mut out[2..], count);
-    let e = 4 + 4 * n;
-    layout::put_bytes(&mut out[4..], &s[4..e]);
+    layout::put_bytes(&mut out[4..], &s[4..table]);
 }
 
 // The sheet with the clauses in this order.
-fn write_order(s: &[u8], order: &[u64], out: &mut [u8])
-    requires { ⌜ ValidSheet (now s) × SortedRange (now s) 0 (clauses (now s)) (now order)
+fn write_order(s: &[u8], table: usize, order: &[u64], out: &mut [u8])
+    requires { ⌜ Known (now s) table × SortedRange (now s) 0 (clauses (now s)) (now order)
         × (length (now order) ≤ 4096) × (length (canonical (now s)) ≤ length (now out)) ⌝ }
     ensures { λ _. ⌜ now (out .exit) ≡ over (canonical (now (s .entry))) (now (out .entry)) ⌝ }
 {
-    let n = sheet::variable_count(s) as usize;
     let q = order.len();
-    write_head(s, n, q as u16, out);
-    let table = 4 + 4 * n;
+    write_head(s, table, q as u16, out);
     let start = table + 8 * q;
     write_pairs(s, table, order, start, &mut out[table..]);
     write_bodies(s, table, order, &mut out[start..]);
 }
 
 // The same where the buffer is long enough, which is known before the first byte is written.
-pub(crate) fn write_if_room(s: &[u8], order: &[u64], out: &mut [u8]) -> Written
-    requires { ⌜ ValidSheet (now s) × SortedRange (now s) 0 (clauses (now s)) (now order) × (length (now order) ≤ 4096) ⌝ }
+pub(crate) fn write_if_room(s: &[u8], table: usize, order: &[u64], out: &mut [u8]) -> Written
+    requires { ⌜ Known (now s) table × SortedRange (now s) 0 (clauses (now s)) (now order) × (length (now order) ≤ 4096) ⌝ }
     ensures { λ r. ⌜ (r ≡ writtenBy (shortage (now (s .entry)) (length (now (out .entry)))) (canonical (now (s .entry))))
         × (now (out .exit) ≡ leftBy (shortage (now (s .entry)) (length (now (out .entry)))) (canonical (now (s .entry))) (now (out .entry))) ⌝ }
 {
-    let n = sheet::variable_count(s) as usize;
-    let table = 4 + 4 * n;
     let size = table + 8 * order.len() + bodies_size(s, table, order);
     if out.len() < size {
         return Written {
@@ -104,7 +98,7 @@ pub(crate) fn write_if_room(s: &[u8], order: &[u64], out: &mut [u8]) -> Written
             length: 0,
         };
     }
-    write_order(s, order, out);
+    write_order(s, table, order, out);
     Written {
         number: 0,
         place: 0,

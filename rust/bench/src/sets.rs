@@ -9,7 +9,7 @@ use samples::sheets::{problem, Costs, Shape};
 pub type Make = fn(usize, &mut Random) -> Problem;
 
 /// The sets by their names, with the number of clauses. A quarter of them shows how the time grows.
-pub const SETS: [(&str, Make, usize); 15] = [
+pub const SETS: [(&str, Make, usize); 21] = [
     ("random", random, MOST_CLAUSES),
     ("random-2048", random, MOST_CLAUSES / 2),
     ("random-1024", random, MOST_CLAUSES / 4),
@@ -21,8 +21,14 @@ pub const SETS: [(&str, Make, usize); 15] = [
     ("short-1024", short, MOST_CLAUSES / 4),
     ("long", long, MOST_CLAUSES),
     ("long-1024", long, MOST_CLAUSES / 4),
-    ("common", common, MOST_CLAUSES),
-    ("common-1024", common, MOST_CLAUSES / 4),
+    ("common-3", common::<3>, MOST_CLAUSES),
+    ("common-3-1024", common::<3>, MOST_CLAUSES / 4),
+    ("common-32", common::<32>, MOST_CLAUSES),
+    ("common-32-1024", common::<32>, MOST_CLAUSES / 4),
+    ("common", common::<300>, MOST_CLAUSES),
+    ("common-1024", common::<300>, MOST_CLAUSES / 4),
+    ("groups", groups, MOST_CLAUSES),
+    ("groups-1024", groups, MOST_CLAUSES / 4),
     ("equal", equal, MOST_CLAUSES),
     ("equal-1024", equal, MOST_CLAUSES / 4),
 ];
@@ -85,15 +91,31 @@ fn long(count: usize, random: &mut Random) -> Problem {
     problem
 }
 
-/// The same three hundred literals at the beginning of each clause, and up to ten behind them.
-fn common(count: usize, random: &mut Random) -> Problem {
-    let beginning: Vec<Literal> = (1..=300).map(Literal::positive).collect();
+/// The same literals at the beginning of each clause, so many, and up to ten behind them.
+fn common<const SHARED: usize>(count: usize, random: &mut Random) -> Problem {
+    let beginning: Vec<Literal> = (1..=SHARED).map(Literal::positive).collect();
     let mut problem = drawn(count, 10, 10, random);
     for clause in &mut problem.clauses {
-        clause.retain(|literal| literal.variable() > beginning.len());
-        clause.splice(..0, beginning.iter().copied());
+        begin_with(&beginning, clause);
     }
     problem
+}
+
+/// One of two beginnings of three literals, which differ in the first: as many as the proved writer keeps beside a clause's
+/// number, and not those of all clauses.
+fn groups(count: usize, random: &mut Random) -> Problem {
+    let mut problem = drawn(count, 10, 10, random);
+    for clause in &mut problem.clauses {
+        let first = Literal::new(1, random.percent(50));
+        begin_with(&[first, Literal::positive(2), Literal::positive(3)], clause);
+    }
+    problem
+}
+
+/// Puts literals of the first variables in the place of those that the clause has.
+fn begin_with(beginning: &[Literal], clause: &mut Vec<Literal>) {
+    clause.retain(|literal| literal.variable() > beginning.len());
+    clause.splice(..0, beginning.iter().copied());
 }
 
 /// One clause again and again.

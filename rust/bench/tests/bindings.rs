@@ -1,5 +1,5 @@
-//! The example programs of `bindings/`, built and run: every plan of `examples/` gives its line and exit code, and the C program
-//! makes no memory error that valgrind sees, whatever the files hold.
+//! The example programs of `bindings/`, built and run: every plan of `examples/` gives its line and exit code, and its sheet is
+//! written in the one way; and the C programs make no memory error that valgrind sees, whatever the files hold.
 
 use reference::Verdict;
 use samples::examples::{example, examples, Example};
@@ -34,12 +34,14 @@ fn build(command: &mut Command) {
     assert!(output.status.success(), "{command:?}\n{said}");
 }
 
-/// The C program, with the command that its comment has and every warning an error.
-fn c_program(name: &str) -> PathBuf {
-    let program = folder(name).join("judge");
+/// A C program in a folder of this test's own, with the command that its comment has and every warning an error.
+fn c_program(name: &str, test: &str) -> PathBuf {
+    let program = folder(test).join(name);
     let compiler = std::env::var("CC").unwrap_or("cc".into());
-    let words = "-std=c11 -O2 -Wall -Wextra -Wpedantic -Werror -Iinclude bindings/c/judge.c \
-                 target/staticlib/libexports.a";
+    let words = format!(
+        "-std=c11 -O2 -Wall -Wextra -Wpedantic -Werror -Iinclude bindings/c/{name}.c \
+         target/staticlib/libexports.a"
+    );
     let mut command = Command::new(compiler);
     command.current_dir(root()).args(words.split_whitespace());
     build(command.arg("-o").arg(&program));
@@ -89,7 +91,7 @@ fn tells_wrong_use(program: &Path) {
 
 #[test]
 fn the_c_program_gives_every_line() {
-    let program = c_program("c");
+    let program = c_program("judge", "c");
     gives_every_line(&program);
     tells_wrong_use(&program);
 }
@@ -101,6 +103,68 @@ fn the_rust_program_gives_every_line() {
     tells_wrong_use(&program);
 }
 
+/// What the C writer does to a sheet and to a file that holds something already: the reference writer's bytes, or its
+/// refusal, which leaves that file alone. `start` gets the program's two words.
+fn writes(mut start: Command, folder: &Path, sheet: &[u8], what: &str) {
+    let files = ["sheet", "written"].map(|name| folder.join(name));
+    let before = b"before".to_vec();
+    fs::write(&files[0], sheet).unwrap();
+    fs::write(&files[1], &before).unwrap();
+    let mut wanted = vec![0; sheet.len()];
+    let answer = reference::write_sheet(sheet, &mut wanted);
+    wanted.truncate(answer.length as usize);
+    let refusal = format!("refused {} at {}\n", answer.number, answer.place);
+    let (code, line, wanted) = match answer.number {
+        0 => (0, String::new(), wanted),
+        _ => (1, refusal, before),
+    };
+    let output = run(start.args(&files));
+    let said = String::from_utf8_lossy(&output.stderr);
+    assert_eq!(output.status.code(), Some(code), "{what}\n{said}");
+    assert_eq!(String::from_utf8_lossy(&output.stdout), line, "{what}");
+    assert!(fs::read(&files[1]).unwrap() == wanted, "{what}");
+}
+
+/// The sheet with its clauses listed a second time: what is written of it is shorter.
+fn twice_over(sheet: &[u8]) -> Vec<u8> {
+    let mut listing = Listing::read(sheet).unwrap();
+    listing.clauses.extend_from_within(..);
+    listing.sheet()
+}
+
+#[test]
+fn the_c_writer_writes_every_sheet() {
+    let program = c_program("write", "c-write");
+    let folder = program.parent().unwrap();
+    for Example { sheet, .. } in examples() {
+        let cut = &sheet[..sheet.len() - 1];
+        for file in [cut, &twice_over(&sheet), &sheet] {
+            writes(Command::new(&program), folder, file, "an example's sheet");
+        }
+    }
+    tells_wrong_use(&program);
+    let words = ["sheet", "no such folder/written"].map(|name| folder.join(name));
+    let output = run(Command::new(&program).args(words));
+    let said = String::from_utf8_lossy(&output.stderr);
+    assert!(
+        output.status.code() == Some(2) && said.starts_with("cannot write "),
+        "{said}"
+    );
+}
+
+/// The program under valgrind.
+fn watched(program: &Path) -> Command {
+    let mut command = Command::new("valgrind");
+    command.args([
+        "--quiet",
+        "--leak-check=full",
+        "--errors-for-leak-kinds=all",
+    ]);
+    command.arg(format!("--error-exitcode={MEMORY_ERROR}"));
+    command.arg(program);
+    command
+}
+
 /// Runs the program on these bytes under valgrind, and compares its answer with the reference checker's.
 fn clean(program: &Path, sheet: &[u8], record: &[u8], what: &str) {
     let folder = program.parent().unwrap();
@@ -109,14 +173,7 @@ fn clean(program: &Path, sheet: &[u8], record: &[u8], what: &str) {
         fs::write(&path, bytes).unwrap();
         path
     });
-    let mut command = Command::new("valgrind");
-    command.args([
-        "--quiet",
-        "--leak-check=full",
-        "--errors-for-leak-kinds=all",
-    ]);
-    command.arg(format!("--error-exitcode={MEMORY_ERROR}"));
-    let output = run(command.arg(program).args(files));
+    let output = run(watched(program).args(files));
     let said = String::from_utf8_lossy(&output.stderr);
     let answer = reference::judge(sheet, record);
     let wanted = match answer.verdict() {
@@ -132,7 +189,7 @@ fn clean(program: &Path, sheet: &[u8], record: &[u8], what: &str) {
 #[test]
 #[ignore = "needs valgrind"]
 fn the_c_program_makes_no_memory_error() {
-    let program = c_program("valgrind");
+    let program = c_program("judge", "valgrind");
     let Example { sheet, record, .. } = example("D");
     clean(&program, &sheet, &record, "valid");
     let stopped = example("S1");
@@ -145,11 +202,22 @@ fn the_c_program_makes_no_memory_error() {
         clean(&program, &sheet, &record[..cut], "a cut record");
     }
     clean(&program, &sheet[..sheet.len() - 1], &record, "a cut sheet");
-    // What the writer makes of it is shorter than the block that it gets.
-    let mut listing = Listing::read(&sheet).unwrap();
-    listing.clauses.extend_from_within(..);
-    clean(&program, &listing.sheet(), &record, "clauses twice over");
     for sample in samples::stream(3).take(60).step_by(6) {
         clean(&program, &sample.sheet, &sample.record, sample.aimed);
+    }
+}
+
+#[test]
+#[ignore = "needs valgrind"]
+fn the_c_writer_makes_no_memory_error() {
+    let program = c_program("write", "valgrind-write");
+    let folder = program.parent().unwrap();
+    let sheet = example("D").sheet;
+    let cut = &sheet[..sheet.len() - 1];
+    for file in [&[], cut, &twice_over(&sheet), &sheet] {
+        writes(watched(&program), folder, file, "a sheet of six variables");
+    }
+    for sample in samples::stream(3).take(60).step_by(6) {
+        writes(watched(&program), folder, &sample.sheet, sample.aimed);
     }
 }

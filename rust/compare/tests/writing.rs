@@ -87,7 +87,7 @@ fn assert_one_way(sheet: &[u8], bytes: &[u8], what: &str) {
     let [before, after] = [sheet, bytes].map(|file| Listing::read(file).expect("a sheet in form"));
     let told = || format!("{what}\nsheet {}\nwritten {}", hex(sheet), hex(bytes));
     assert_eq!(before.content(), after.content(), "{}", told());
-    // A list of numbers is below those that it begins, and else the first number that differs decides.
+    // A list of numbers is below those that begin with it, and else the first number that differs decides.
     let rises = after.clauses.windows(2).all(|pair| pair[0] < pair[1]);
     assert!(rises && after.sheet() == bytes, "{}", told());
     assert!(bytes.len() <= sheet.len(), "{}", told());

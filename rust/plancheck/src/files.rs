@@ -1,4 +1,4 @@
-//! Files read once and whole, and the questions to the proved checker that say what can be done with them.
+//! Files read and written, each at once and whole, and the questions to the proved checker that say what can be done with them.
 
 use crate::explain;
 use crate::failure::Failure;
@@ -6,9 +6,9 @@ use crate::record::Record;
 use crate::refusals::sentence;
 use crate::sheet::Sheet;
 use proved::Answer;
-use std::fs::File;
-use std::io::{self, IsTerminal, Read, Write};
-use std::path::Path;
+use std::fs::{self, File};
+use std::io::{self, ErrorKind, IsTerminal, Read, Write};
+use std::path::{Path, PathBuf};
 
 /// Files above this many bytes report while they are read.
 const LONG: u64 = 100_000_000;
@@ -49,11 +49,68 @@ pub fn read_text(path: &Path) -> Result<String, Failure> {
     })
 }
 
+/// A file that stands there already stays as it was until every byte is written. It may be the only copy of what was read.
 pub fn write(path: &Path, bytes: &[u8]) -> Result<(), Failure> {
-    let written = File::create(path).and_then(|mut file| file.write_all(bytes));
+    let written = match existing(path) {
+        Ok(Some(old)) => replace(&old, bytes),
+        Ok(None) => File::create(path).and_then(|mut file| file.write_all(bytes)),
+        Err(error) => Err(error),
+    };
     written.map_err(|error| {
         Failure::Unreadable(format!("{}: cannot be written: {error}", path.display()))
     })
+}
+
+/// The file that the path names, behind all links. A device or a pipe is none, and is written to where it is. So is a file that
+/// stands open, as the one behind `/dev/stdout`: what else is written to it must not go astray.
+fn existing(path: &Path) -> io::Result<Option<PathBuf>> {
+    if path.starts_with("/dev") || path.starts_with("/proc") {
+        return Ok(None);
+    }
+    match fs::canonicalize(path) {
+        Ok(found) => Ok(Some(found).filter(|found| found.is_file())),
+        Err(error) if error.kind() == ErrorKind::NotFound => Ok(None),
+        Err(error) => Err(error),
+    }
+}
+
+/// Puts a new file in the place of an old one, or leaves the old one alone.
+fn replace(old: &Path, bytes: &[u8]) -> io::Result<()> {
+    // A file that may not be written is not replaced either.
+    let permissions = File::options()
+        .write(true)
+        .open(old)?
+        .metadata()?
+        .permissions();
+    let (new, mut file) = new_beside(old)?;
+    let done = file
+        .set_permissions(permissions)
+        .and_then(|()| file.write_all(bytes))
+        // A full disk may be told as late as this.
+        .and_then(|()| file.sync_all())
+        .and_then(|()| fs::rename(&new, old));
+    if done.is_err() {
+        let _ = fs::remove_file(&new);
+    }
+    done
+}
+
+/// An empty file in the same folder, since a rename cannot leave the disk. What stands under a name is not touched: another
+/// machine may have a process of the same number.
+fn new_beside(old: &Path) -> io::Result<(PathBuf, File)> {
+    let mut number = 0;
+    loop {
+        let name = format!(".plancheck-{}-{number}", std::process::id());
+        let new = old.with_file_name(name);
+        match File::create_new(&new) {
+            Err(error) if error.kind() == ErrorKind::AlreadyExists => number += 1,
+            Err(error) => {
+                let message = format!("no file can be made beside it: {error}");
+                return Err(io::Error::new(error.kind(), message));
+            }
+            Ok(file) => return Ok((new, file)),
+        }
+    }
 }
 
 /// The sheet, where the proved checker has nothing against it: with an empty record its refusals come first, and the

@@ -90,15 +90,16 @@ pub const WRITE: &str = "\
 plancheck write SHEET -o OUT
 
 Writes the canonical sheet of a valid one, as the proved writer has it: the same variables and costs, the clauses sorted by the
-codes of their literals, a clause before those that it begins, each clause once. The literal v has the code 2 v, and -v has
+codes of their literals, a clause before those that begin with it, each clause once. The literal v has the code 2 v, and -v has
 2 v + 1. Sheets with the same variables, costs and set of clauses come out byte for byte alike, and no others do. A sheet that
 is canonical already stays as it is.
 
-Clauses get other numbers, and a record cites them by number: it keeps to the sheet that it was made for. So keep that sheet, or
-plan the canonical one. OUT may be SHEET itself.
+Clauses get other numbers, and a record cites them by number: it keeps to the sheet that it was made for. OUT may be SHEET
+itself, but a record that was made for the old sheet loses it then. So keep that sheet beside its record, or plan the canonical
+one.
 
 Exit code 0 for a sheet that is written, 1 for a refused one, which leaves OUT as it was, 2 for wrong use and files that cannot
-be read or written.
+be read or written. Where OUT cannot be written, a file that stood there stays as it was.
 ";
 
 pub const PLAN: &str = "\

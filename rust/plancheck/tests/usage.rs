@@ -67,12 +67,13 @@ fn wrong_use_shows_help_and_exits_with_2() {
 fn files_that_cannot_be_read_or_written_exit_with_2() {
     let folder = Folder::new("unreadable");
     folder.write("a.txt", "sheet\ncost 1 1\n");
-    let calls: [(&[&str], &str); 7] = [
+    let calls: [(&[&str], &str); 8] = [
         (&["judge", "a.txt", "gone"], "gone"),
         (&["explain", "gone", "a.txt"], "gone"),
         (&["text", "."], "."),
         (&["pack", "gone", "-o", "b"], "gone"),
         (&["pack", "a.txt", "-o", "gone/b"], "gone/b"),
+        (&["pack", "a.txt", "-o", "."], "."),
         (&["write", "gone", "-o", "b"], "gone"),
         (&["import", "gone", "-o", "b"], "gone"),
     ];

@@ -13,7 +13,7 @@ const MOVED: &str =
 const UNMOVED: &str = "nothing has moved: the sheet was written in this way already\n";
 
 const COSTS: &str = "sheet\ncost 1 4\ncost 2 3\ncost 3 2\n";
-/// Clauses in the order that is asked for, a clause before those that it begins.
+/// Clauses in the order that is asked for, a clause before those that begin with it.
 const CLAUSES: [&str; 8] = ["", " 1", " 1 2", " 1 2 3", " 1 -2", " 1 3", " -1 3", " 2"];
 const ALL: [usize; 8] = [0, 1, 2, 3, 4, 5, 6, 7];
 
@@ -55,7 +55,7 @@ fn what_is_written_already_stays() {
     let sheets = [
         (sheet(&ALL), "8 clauses, 106 bytes"),
         (sheet(&[]), "0 clauses, 16 bytes"),
-        (sheet(&[0]), "1 clauses, 24 bytes"),
+        (sheet(&[0]), "1 clause, 24 bytes"),
         (example("A1").sheet, "2 clauses, 36 bytes"),
         (example("W2").sheet, "3 clauses, 52 bytes"),
     ];

@@ -155,11 +155,12 @@ pub fn show<'a>(sheet: &'a [u8], record: &'a [u8], step: u32) -> &'a [u8] {
     &file[start..start + size]
 }
 
-/// Writes a sheet in the one way: the clauses sorted by their codes, a shorter list before those that it begins, each once.
+/// Writes a sheet in the one way: the clauses sorted by their codes, a list before the longer ones that begin with it, each
+/// once.
 ///
 /// The buffer then begins with the written sheet, and the bytes behind it stay; where the sheet is refused, or the buffer is
-/// too short (25), all of it stays. A buffer as long as the sheet is always enough. The clauses' numbers move, so that a
-/// record keeps to its own sheet.
+/// too short (25), all of it stays. A buffer as long as the sheet is always enough. Clauses may get other numbers, so that a
+/// record goes with the sheet that it was made for.
 pub fn write_sheet(sheet: &[u8], out: &mut [u8]) -> Written {
     let mut numbers = [0u64; 3];
     // SAFETY: the sheet may be read, the buffer written, and the array has three places; none of them overlap.
@@ -235,5 +236,34 @@ mod tests {
         // It has no clauses, so that it stands in the one way already.
         assert_eq!(written(sheet, (out.as_mut_ptr(), out.len())), [0, 0, 8]);
         assert_eq!((&out[..8], &out[8..]), (&bytes[..], &[7; 2][..]));
+    }
+
+    /// A sheet of one variable, with as many clauses as there may be: what the writer takes grows a little with their number.
+    fn most_clauses() -> Vec<u8> {
+        let count = 4_096_u16;
+        let pair = (8 + 8 * u64::from(count)).to_le_bytes();
+        let [low, high] = count.to_le_bytes();
+        let head = [1, 0, low, high, 1, 0, 0, 0];
+        [&head[..], &pair.repeat(usize::from(count))].concat()
+    }
+
+    /// The header promises less than 88 KB for a call. This thread has no more, and some of it goes to the thread itself.
+    #[test]
+    fn a_small_stack_is_enough() {
+        let calls = || {
+            let sheet = include_bytes!("../../../examples/D/sheet");
+            let record = include_bytes!("../../../examples/D/record");
+            let most = most_clauses();
+            let mut out = most.clone();
+            let length = write_sheet(&most, &mut out).length;
+            (
+                judge(sheet, record).cost,
+                show(sheet, record, 1).len(),
+                length,
+            )
+        };
+        let thread = std::thread::Builder::new().stack_size(88 * 1024);
+        let done = thread.spawn(calls).unwrap().join().unwrap();
+        assert_eq!(done, (11, 6, 16));
     }
 }

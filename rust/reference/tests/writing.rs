@@ -394,7 +394,7 @@ fn random_clause(numbers: &mut Numbers, variables: &[u16]) -> Vec<u16> {
     chosen.collect()
 }
 
-/// The order by document 02's words: by the codes, or a shorter list before those that it begins.
+/// The order that document 02 asks for: by the codes, and a list before the longer ones that begin with it.
 fn comes_before(a: &[u16], b: &[u16]) -> bool {
     match a.iter().zip(b).find(|(x, y)| x != y) {
         Some((x, y)) => x < y,

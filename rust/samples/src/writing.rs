@@ -61,7 +61,7 @@ impl Content {
         self.costs.len()
     }
 
-    /// The clauses sorted by their codes, a shorter list before those that it begins.
+    /// The clauses sorted by their codes, a list before the longer ones that begin with it.
     pub fn sorted(&self) -> Vec<Vec<u16>> {
         self.clauses.iter().cloned().collect()
     }

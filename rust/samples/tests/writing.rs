@@ -10,7 +10,7 @@ use samples::draft::code_bytes;
 use samples::random::Random;
 use samples::writing::changes::CHANGES;
 use samples::writing::contents::{
-    about_256, bare, beginnings, long_beginning, many, of_count, single,
+    about_256, bare, beginnings, long_beginning, many, of_count, short_beginning, single,
 };
 use samples::writing::listings::{filled_up, LISTINGS};
 use samples::writing::{families, Case, Content, Family, Listing};
@@ -176,6 +176,13 @@ fn hundred(shape: fn(&mut Random) -> Content, sort: fn(&[Vec<u16>]) -> bool) -> 
     contents.filter(|all| all.windows(2).any(sort)).count()
 }
 
+/// Several clauses, and all begin with the same literal.
+fn begins_alike(content: &Content) -> bool {
+    let mut firsts = content.clauses.iter().map(|clause| clause.first());
+    let first = firsts.next().flatten();
+    first.is_some() && content.clauses.len() > 1 && firsts.all(|other| other == first)
+}
+
 #[test]
 fn shapes_have_what_they_are_for() {
     assert!(hundred(beginnings, begins) > 80);
@@ -186,6 +193,8 @@ fn shapes_have_what_they_are_for() {
         assert_eq!(bare(&mut random).clauses.len(), 0);
         assert_eq!(single(&mut random).clauses.len(), 1);
     }
+    let short = (0..100).map(|_| short_beginning(&mut random));
+    assert!(short.filter(begins_alike).count() > 80);
     let counts: BTreeSet<usize> = (0..40).map(|_| many(&mut random).clauses.len()).collect();
     assert!(counts.len() > 5 && counts.first() >= Some(&127));
     assert_eq!(counts.last(), Some(&MOST_CLAUSES));

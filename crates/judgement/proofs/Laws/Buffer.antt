@@ -1,13 +1,12 @@
 -- Writing over the beginning of a lent buffer, piece after piece, and into a part of it. Nothing here knows what is written.
 -- Assumes nothing.
-use Prim.Native.Nat.{ℕ, suc, _+_, _-_, _≤_, _<_}
+use Prim.Native.Nat.{ℕ, _+_, _-_, _≤_, _<_}
 use mathlib.Core.Path.{_≡_, refl, _∙_}
 use mathlib.Core.List.{List, _++_, append-assoc, append-nil}
 use native.Mathlib.Omega.{arith}
-use native.Mathlib.Numerals.{add-one}
 use borrow.Author.Tests.{le-leb, lt-leb}
-use lib.ListN.{length, getD, take, drop, set, length-append, length-drop, drop-of-length-le}
-use lib.Seq.{length-take-le, take-length, take-suc, take-all, take-at, drop-at, drop-cons, drop-append-add, drop-drop, set-at, paste}
+use lib.ListN.{length, take, drop, length-append, length-drop, drop-of-length-le}
+use lib.Seq.{length-take-le, take-length, take-all, take-at, drop-at, drop-append-add, drop-drop, paste}
 use Rattle.judgement.specs.Buffer.{over, put}
 
 -- w copied behind the first a elements
@@ -41,23 +40,6 @@ put-room w l h = rw (le-leb (length w) (length l) h)
 pub put-short : (w l : List ℕ) → length l < length w → put w l ≡ l
 unfolding put
 put-short w l h = rw (lt-leb (length w) (length l) h)
-
--- ---- one more element
-
-pub put-turn : (w l₀ l : List ℕ) (i : ℕ) → i < length w → length w ≤ length l₀ → l ≡ take i w ++ drop i l₀
-    → set l i (getD w i 0) ≡ take (i + 1) w ++ drop (i + 1) l₀
-put-turn w l₀ l i h r e =
-    rw (
-      e,
-      drop-cons l₀ i 0 (omega arith),
-      set-at (take i w) (getD l₀ i 0) (drop (suc i) l₀) (getD w i 0) i (length-take-le i w (omega arith)),
-      add-one,
-      take-suc w i 0 h,
-      append-assoc,
-    )
-
-pub put-end : (w l₀ l : List ℕ) (i : ℕ) → length w ≡ i → l ≡ take i w ++ drop i l₀ → l ≡ over w l₀
-put-end w l₀ l i e f = f ∙ rw (← e, take-all (length w) w (omega arith))
 
 -- ---- a part that is lent on, from a on to the end of the buffer
 

@@ -25,7 +25,11 @@ fn told(output: &Path, sheet: &[u8], canonical: &[u8]) -> String {
         true => "nothing has moved: the sheet was written in this way already",
         false => "clause numbers have moved or are gone: a record keeps to the sheet that it was made for",
     };
-    format!("{output}: {clauses} clauses, {bytes} bytes; repeats left out: {repeats}\n{moved}\n")
+    let clauses = match clauses {
+        1 => "1 clause".to_string(),
+        _ => format!("{clauses} clauses"),
+    };
+    format!("{output}: {clauses}, {bytes} bytes; repeats left out: {repeats}\n{moved}\n")
 }
 
 fn clause_count(sheet: &[u8]) -> usize {

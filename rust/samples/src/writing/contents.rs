@@ -14,9 +14,10 @@ pub fn some(random: &mut Random) -> Content {
         6..=10 => single(random),
         11..=25 => beginnings(random),
         26..=35 => long_beginning(random),
-        36..=50 => about_256(random),
-        51..=55 => Content::of(&sheets::wide(random)),
-        56..=65 => Content::of(&sheets::middle(random)),
+        36..=45 => short_beginning(random),
+        46..=60 => about_256(random),
+        61..=65 => Content::of(&sheets::wide(random)),
+        66..=75 => Content::of(&sheets::middle(random)),
         _ => Content::of(&sheets::small(random)),
     }
 }
@@ -85,9 +86,20 @@ pub fn beginnings(random: &mut Random) -> Content {
     content
 }
 
-/// Hundreds of literals that all clauses begin with, and then the few last variables.
+/// Hundreds of literals that all clauses begin with.
 pub fn long_beginning(random: &mut Random) -> Content {
     let variables = random.between(300, MOST_VARIABLES);
+    one_beginning(variables, random)
+}
+
+/// A few of them: a writer that looks at some codes at once has to stop between.
+pub fn short_beginning(random: &mut Random) -> Content {
+    let variables = random.between(13, 26);
+    one_beginning(variables, random)
+}
+
+/// Literals that all clauses begin with, and then some of the last variables.
+fn one_beginning(variables: usize, random: &mut Random) -> Content {
     let left = random.between(1, 12);
     let mut content = without_clauses(variables, random);
     let beginning = literals(1..=variables - left, 95, random);

@@ -39,7 +39,6 @@ add-sum c =
     let l = c .before .before .before .loop in
     let a = c .before .before .before .before .before .before .args in
     let e = ap length (c .body-of .ensures) in
-    let small = c .before .before .before .before .before .before .pre .0 .valid .size in
     let z = clause-size (a .s .now) (numberOf (getD (a .order .now) (l .i) 0)) in
     omega (arith, e, z)
 
@@ -54,7 +53,6 @@ loop-again c =
     let l = c .before .before .before .loop in
     let a = c .before .before .before .before .before .before .args in
     let e = ap length (c .body-of .ensures) in
-    let small = c .before .before .before .before .before .before .pre .0 .valid .size in
     let z = clause-size (a .s .now) (numberOf (getD (a .order .now) (l .i) 0)) in
     let n = size-next (bodyOf (a .s .now)) (a .order .now) (l .i) (omega arith) in
     (omega arith, omega (arith, e, n), omega (arith, e, z))

@@ -39,8 +39,6 @@ sub-put-bytes c =
     let l = c .before .before .before .loop in
     let a = c .before .before .before .before .before .before .before .args in
     let e = ap length (c .body-of .ensures) in
-    let n = l .inv .next-is in
-    let z = l .inv .size in
     let r = size-room (bodyOf (a .s .now)) (a .order .now) (l .i) (omega arith) in
     omega (arith, e)
 
@@ -49,8 +47,6 @@ part-put-bytes-start c =
     let l = c .before .before .before .loop in
     let a = c .before .before .before .before .before .before .before .args in
     let e = ap length (c .body-of .ensures) in
-    let n = l .inv .next-is in
-    let z = l .inv .size in
     let r = size-room (bodyOf (a .s .now)) (a .order .now) (l .i) (omega arith) in
     omega (arith, e)
 
@@ -59,9 +55,6 @@ part-put-bytes-end c =
     let l = c .before .before .before .loop in
     let a = c .before .before .before .before .before .before .before .args in
     let e = ap length (c .body-of .ensures) in
-    let n = l .inv .next-is in
-    let z = l .inv .size in
-    let r = size-room (bodyOf (a .s .now)) (a .order .now) (l .i) (omega arith) in
     omega (arith, e)
 
 put-bytes-requires : tie.Need-put-bytes-requires Inv-loop μ-loop
@@ -72,8 +65,6 @@ add-at c =
     let l = c .before .before .before .before .before .before .before .loop in
     let a = c .before .before .before .before .before .before .before .before .before .before .before .args in
     let e = ap length (c .before .before .before .before .body-of .ensures) in
-    let n = l .inv .next-is in
-    let z = l .inv .size in
     let r = size-room (bodyOf (a .s .now)) (a .order .now) (l .i) (omega arith) in
     omega (arith, e)
 

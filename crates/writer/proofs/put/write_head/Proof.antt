@@ -30,12 +30,6 @@ part-put-u16-end c = search needs
 put-u16-requires : tie.Need-put-u16-requires
 put-u16-requires c κs = search needs
 
-mul-e : tie.Need-mul-e
-mul-e c = search needs
-
-add-e : tie.Need-add-e
-add-e c = search needs
-
 sub-put-bytes-2 : tie.Need-sub-put-bytes-2
 sub-put-bytes-2 c = search needs
 
@@ -63,7 +57,7 @@ same-length c = search needs
 returns : tie.Need-returns
 returns c =
     let a = c .before .before .before .before .before .before .before .before .before .before .before .before .before .before .before .before .args in
-    head-written (a .s .now) (a .n) (a .count) (a .out .now) _ _ _ (omega arith) (omega arith)
+    head-written (a .s .now) (a .table) (a .count) (a .out .now) _ _ _ (omega arith) (omega arith) (omega arith)
     (c .before .before .before .before .before .before .before .before .before .before .before .put-bytes .ensures) (c .before .before .before .before .before .before .before .put-u16 .ensures) (c .before .before .put-bytes2 .ensures)
 
 pub write-head-spec : {M : Type 1} → statement M
@@ -78,8 +72,6 @@ write-head-spec =
     part-put-u16-start
     part-put-u16-end
     put-u16-requires
-    mul-e
-    add-e
     sub-put-bytes-2
     part-put-bytes-start-2
     part-put-bytes-end-2

@@ -3,23 +3,11 @@
 use native.Mathlib.Omega.{arith}
 use Rattle.judgement.specs.Demands.{IsBytes}
 use Rattle.writer.proofs.Canonical.{canonical-length}
-use Rattle.writer.proofs.Raw.{raw-words, raw-size, known-by}
+use Rattle.writer.proofs.Raw.{raw-words, raw-size}
 use Rattle.writer.proofs.Answers.{too-short, long-enough}
 use borrow.Author.Needs.{needs}
 use Rattle.writer.proofs.put.write_if_room.Statement.{statement}
 use Rattle.writer.proofs.put.write_if_room.Tie as tie
-
-variable-count-requires : tie.Need-variable-count-requires
-variable-count-requires c κs = search needs
-
-cast-n : tie.Need-cast-n
-cast-n c = search needs
-
-mul-table : tie.Need-mul-table
-mul-table c = search needs
-
-add-table : tie.Need-add-table
-add-table c = search needs
 
 mul-size : tie.Need-mul-size
 mul-size c = search needs
@@ -29,70 +17,55 @@ add-size c = search needs
 
 bodies-size-requires : tie.Need-bodies-size-requires
 bodies-size-requires c κs =
-    let a = c .before .before .before .before .args in
-    let h = c .before .before .before .before .pre in
-    let bytes : IsBytes (a .s .now) = λ i. c .before .before .before .shared-slice-known .given i .fits in
-    (known-by (a .s .now) (h .0) (c .variable-count .ensures .0), raw-words (a .s .now) (h .0) bytes (a .order .now) (h .1), h .2)
+    let a = c .before .before .before .args in
+    let h = c .before .before .before .pre in
+    let bytes : IsBytes (a .s .now) = λ i. c .before .before .shared-slice-known .given i .fits in
+    (h .0, raw-words (a .s .now) (a .table) (h .0) bytes (a .order .now) (h .1), h .2)
 
 add-size-2 : tie.Need-add-size-2
 add-size-2 c =
-    let a = c .before .before .before .before .before .args in
-    let h = c .before .before .before .before .before .pre in
-    let bytes : IsBytes (a .s .now) = λ i. c .before .before .before .before .shared-slice-known .given i .fits in
-    let z = raw-size (a .s .now) (h .0) bytes (a .order .now) (h .1) in
-    let k = canonical-length (a .s .now) (h .0) in
-    let size = h .0 .size in
-    let n = c .before .variable-count .ensures .0 in
+    let a = c .before .before .before .before .args in
+    let h = c .before .before .before .before .pre in
+    let bytes : IsBytes (a .s .now) = λ i. c .before .before .before .shared-slice-known .given i .fits in
+    let z = raw-size (a .s .now) (a .table) (h .0) bytes (a .order .now) (h .1) in
+    let k = canonical-length (a .s .now) (h .0 .valid) in
     let b = c .bodies-size .ensures in
-    omega (arith, z, k, n, b)
+    omega (arith, z, k, b, h .0 .valid .size)
 
 returns : tie.Need-returns
 returns c =
-    let a = c .before .before .before .before .before .before .args in
-    let h = c .before .before .before .before .before .before .pre in
-    let bytes : IsBytes (a .s .now) = λ i. c .before .before .before .before .before .shared-slice-known .given i .fits in
-    let z = raw-size (a .s .now) (h .0) bytes (a .order .now) (h .1) in
-    let k = canonical-length (a .s .now) (h .0) in
-    let size = h .0 .size in
-    let n = c .before .before .variable-count .ensures .0 in
+    let a = c .before .before .before .before .before .args in
+    let h = c .before .before .before .before .before .pre in
+    let bytes : IsBytes (a .s .now) = λ i. c .before .before .before .before .shared-slice-known .given i .fits in
+    let z = raw-size (a .s .now) (a .table) (h .0) bytes (a .order .now) (h .1) in
     let b = c .before .bodies-size .ensures in
-    too-short (a .s .now) (a .out .now) (omega (arith, z, n, b))
+    too-short (a .s .now) (a .out .now) (omega (arith, z, b))
 
 write-order-requires : tie.Need-write-order-requires
 write-order-requires c κs =
-    let a = c .before .before .before .before .before .before .before .args in
-    let h = c .before .before .before .before .before .before .before .pre in
-    let bytes : IsBytes (a .s .now) = λ i. c .before .before .before .before .before .before .shared-slice-known .given i .fits in
-    let z = raw-size (a .s .now) (h .0) bytes (a .order .now) (h .1) in
-    let k = canonical-length (a .s .now) (h .0) in
-    let size = h .0 .size in
-    let n = c .before .before .before .variable-count .ensures .0 in
+    let a = c .before .before .before .before .before .before .args in
+    let h = c .before .before .before .before .before .before .pre in
+    let bytes : IsBytes (a .s .now) = λ i. c .before .before .before .before .before .shared-slice-known .given i .fits in
+    let z = raw-size (a .s .now) (a .table) (h .0) bytes (a .order .now) (h .1) in
     let b = c .before .before .bodies-size .ensures in
-    (h .0, h .1, h .2, omega (arith, z, n, b))
+    (h .0, h .1, h .2, omega (arith, z, b))
 
 same-length : tie.Need-same-length
 same-length c = search needs
 
 returns-2 : tie.Need-returns-2
 returns-2 c =
-    let a = c .before .before .before .before .before .before .before .before .before .before .args in
-    let h = c .before .before .before .before .before .before .before .before .before .before .pre in
-    let bytes : IsBytes (a .s .now) = λ i. c .before .before .before .before .before .before .before .before .before .shared-slice-known .given i .fits in
-    let z = raw-size (a .s .now) (h .0) bytes (a .order .now) (h .1) in
-    let k = canonical-length (a .s .now) (h .0) in
-    let size = h .0 .size in
-    let n = c .before .before .before .before .before .before .variable-count .ensures .0 in
+    let a = c .before .before .before .before .before .before .before .before .before .args in
+    let h = c .before .before .before .before .before .before .before .before .before .pre in
+    let bytes : IsBytes (a .s .now) = λ i. c .before .before .before .before .before .before .before .before .shared-slice-known .given i .fits in
+    let z = raw-size (a .s .now) (a .table) (h .0) bytes (a .order .now) (h .1) in
     let b = c .before .before .before .before .before .bodies-size .ensures in
-    long-enough (a .s .now) (a .out .now) _ _ (omega (arith, z, n, b)) (omega (arith, z, n, b)) (c .before .before .write-order .ensures)
+    long-enough (a .s .now) (a .out .now) _ _ (omega (arith, z, b)) (omega (arith, z, b)) (c .before .before .write-order .ensures)
 
 pub write-if-room-spec : {M : Type 1} → statement M
 write-if-room-spec =
     tie.close
     (tie.spec
-    variable-count-requires
-    cast-n
-    mul-table
-    add-table
     mul-size
     add-size
     bodies-size-requires

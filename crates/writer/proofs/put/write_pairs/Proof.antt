@@ -39,12 +39,10 @@ mul-at c = omega arith
 
 sub-put-pair : tie.Need-sub-put-pair Inv-loop μ-loop
 sub-put-pair c =
-    let z = c .before .before .before .loop .inv .size in
     omega arith
 
 part-put-pair-start : tie.Need-part-put-pair-start Inv-loop μ-loop
 part-put-pair-start c =
-    let z = c .before .before .before .loop .inv .size in
     omega arith
 
 part-put-pair-end : tie.Need-part-put-pair-end Inv-loop μ-loop
@@ -54,7 +52,6 @@ cast-put-pair : tie.Need-cast-put-pair Inv-loop μ-loop
 cast-put-pair c =
     let l = c .before .before .before .before .loop in
     let a = c .before .before .before .before .before .before .before .before .args in
-    let n = l .inv .next-is in
     let r = size-room (bodyOf (a .s .now)) (a .order .now) (l .i) (omega arith) in
     omega arith
 
@@ -74,7 +71,6 @@ add-next c =
     let l = c .before .before .before .before .before .before .before .loop in
     let a = c .before .before .before .before .before .before .before .before .before .before .before .args in
     let e = ap length (c .before .before .before .before .body-of .ensures) in
-    let n = l .inv .next-is in
     let r = size-room (bodyOf (a .s .now)) (a .order .now) (l .i) (omega arith) in
     omega (arith, e)
 

@@ -39,7 +39,6 @@ part-result-end c =
     let a = c .before .before .args in
     let bytes : IsBytes (a .s .now) = λ i. c .before .shared-slice-known .given i .fits in
     let h = pair-halves (a .s .now) (a .table + 8 * (a .k - 1)) bytes (c .u64-at .ensures) in
-    let e = c .before .before .pre .0 .pairs in
     omega (arith, h .0, h .1, body-end (a .s .now) (a .table) (a .k) (c .before .before .pre .0) (c .before .before .pre .1))
 
 returns : tie.Need-returns
