@@ -24,7 +24,8 @@ enum { PLAN_NUMBER, PLAN_PLACE, PLAN_COST, PLAN_OPEN_COUNT, PLAN_STEP_COUNT, PLA
 
 /* Judges a record. Where the number is not 0, the record is refused: it is the refusal's number in the table of docs/FORMATS.md,
  * with its place, and the last four are 0. Where it is 0, the last four are the claim, the count of true variables, the count of
- * steps and the gap, and there are three such answers, of which the first two alone are acceptances:
+ * steps and the gap, and there are three such answers, of which the first two alone are acceptances. The cost of an assignment is
+ * the sheet's loss and the costs of its true variables:
  *
  *   least    the gap is 0 and the claim is not PLAN_NONE: it is the least cost of any assignment that satisfies every clause;
  *   none     the gap is 0 and the claim is PLAN_NONE: no assignment satisfies every clause;
@@ -40,9 +41,10 @@ void plan_show(const uint8_t *sheet, size_t sheet_len, const uint8_t *record, si
 /* The places of the writer's numbers: PLAN_NUMBER and PLAN_PLACE, and then this one. */
 enum { PLAN_LENGTH = 2 };
 
-/* Writes a sheet in the one way: the same variables and costs, and the clauses sorted by their codes, a list before the longer
- * ones that begin with it, each clause once. Two sheets are written as the same bytes exactly where their variables, costs and
- * sets of clauses are the same, and what was written once stays as it is when it is written again.
+/* Writes a sheet in the one way: the same variables, costs and loss, and the clauses sorted by their codes, a list before the
+ * longer ones that begin with it, each clause once. A mark whose loss is 0 is left out. Two sheets are written as the same bytes
+ * exactly where their variables, costs, losses and sets of clauses are the same, and what was written once stays as it is when
+ * it is written again.
  *
  * Where the number is 0, out begins with the written sheet, of so many bytes as the length says, and the bytes behind it stay
  * as they were. Where it is not, it is the refusal's number in the table of docs/FORMATS.md, 1 to 4 of the sheet or 25 where

@@ -99,8 +99,8 @@ quotient-casts z n d e b l h =
     rw (quotient-back z n d e b l h) (tt, record { fits = omega arith })
 
 pub rounded-read : (z : ℤ) (n d : ℕ) → z ≡ pos n → n < 2 ^ 62 → 1 ≤ d → d < 2 ^ 16
-    → natAbs (toZ w64 (quotientBits z d)) ≡ roundedUp z d
-rounded-read z n d e b l h = rw (quotient-back z n d e b l h, e)
+    → (natAbs (toZ w64 (quotientBits z d)) ≡ roundedUp z d) × (natAbs (toZ w64 (quotientBits z d)) < 2 ^ 63)
+rounded-read z n d e b l h = rw (quotient-back z n d e b l h, e) (refl, quotient-small n d b h)
 
 -- ---- the lesser of an integer and 0
 

@@ -9,9 +9,9 @@ use native.Mathlib.Decide.{ℕ-discrete}
 use borrow.Author.Tests.{eq-eqb, ne-eqb}
 use lib.Dec.{eqb}
 use lib.ListN.{length, set, length-set}
-use Rattle.judgement.specs.Meaning.{variableOf, isPositive}
+use Rattle.judgement.specs.Meaning.{variableOf, isPositive, withLoss}
 use Rattle.judgement.specs.Literals.{count, code, variable}
-use Rattle.judgement.specs.Sheet.{variables, costOf}
+use Rattle.judgement.specs.Sheet.{variables, costOf, problemOf}
 use Rattle.judgement.specs.declared.Finding.the-variants.{Fine, Fault}
 use Rattle.judgement.specs.Step.{bound, literals}
 use Rattle.judgement.specs.Kinds.{negativeCost, costBound}
@@ -51,7 +51,7 @@ pub price-next : (prices part : List ℕ) (i : ℕ) {c : ℕ} → Cheap prices p
     → priceAt prices c < 2 ^ 32
 price-next prices part i h less e = rw e (h (i + 1) (omega arith, omega arith))
 
--- ---- the literals of a step with body b: `part` are these, x its bound, and p what they cost
+-- ---- the literals of a step with body b: `part` are these, x its bound, p what they cost, and y that with the loss
 
 module _ (s prices b : List ℕ) (k : ℕ) (formed : Formed s b k) (known : Prices s prices) {part : List ℕ} (part-is : part ≡ literals b)
   where
@@ -61,17 +61,17 @@ module _ (s prices b : List ℕ) (k : ℕ) (formed : Formed s b k) (known : Pric
     pub own-priced : LiteralList 1024 part
     own-priced = rw part-is (own-list s b k formed)
 
-    module _ {x p : ℕ} (x-is : x ≡ bound b) (p-is : p ≡ priceSum prices part) where
+    module _ {x p y : ℕ} (x-is : x ≡ bound b) (p-is : p ≡ priceSum prices part) (y-is : y ≡ withLoss (problemOf s) p) where
       price : p ≡ negativeCost s (literals b)
       price = (rw part-is at p-is) ∙ price-sum s prices (literals b) known (own-layout s b k formed .list)
 
-      pub cost-other : (x ≡ p → ⊥) → Fault 13 k ≡ costBound s b k
+      pub cost-other : (x ≡ y → ⊥) → Fault 13 k ≡ costBound s b k
       unfolding costBound
-      cost-other h = rw (← x-is, ← price, ne-eqb x p h)
+      cost-other h = rw (← x-is, ← price, ← y-is, ne-eqb x y h)
 
-      pub cost-same : x ≡ p → Fine ≡ costBound s b k
+      pub cost-same : x ≡ y → Fine ≡ costBound s b k
       unfolding costBound
-      cost-same h = rw (← x-is, ← price, eq-eqb x p h)
+      cost-same h = rw (← x-is, ← price, ← y-is, eq-eqb x y h)
 
 -- ---- the arrays, filled for one variable after the other: a positive literal gets p of its variable, a negative one q of it
 

@@ -14,9 +14,9 @@ use Rattle.judgement.specs.Scan.{allOf, sumOf}
 use Rattle.judgement.specs.declared.Finding.the-variants.{Fine, Fault}
 use Rattle.judgement.specs.Finding.{_then_}
 use Rattle.judgement.specs.Number.{numberAt}
-use Rattle.judgement.specs.Meaning.{negative}
+use Rattle.judgement.specs.Meaning.{negative, withLoss}
 use Rattle.judgement.specs.Literals.{count, holds, mentions}
-use Rattle.judgement.specs.Sheet.{variables, costOf, clausePairsAt}
+use Rattle.judgement.specs.Sheet.{variables, costOf, clausePairsAt, problemOf}
 use Rattle.judgement.specs.Kinds.{negativeCost}
 use Rattle.judgement.specs.Step.{bound, literals, tail, divisor, entryCount, weight}
 use Rattle.judgement.specs.Integers.{sumOfℤ, roundedUp}
@@ -137,8 +137,8 @@ unfolding weightsFinding
 weights-fault s b k {r = r} p q h = rw (← p, ← q, not-true r h)
 
 module _ (s b : List ℕ) (k : ℕ) {e D : List ℕ} {r : Bool} {x y : ℕ} (p : e ≡ tail b) (l : D ≡ literals b) (q : r ≡ isWeighted e)
-    (h : not r ≡ false) (x-is : x ≡ bound b) (y-is : y ≡ roundedUp (totalOf s D e (entryCount e)) (divisor e)) where
-  cost-is : y ≡ linearCost s b
+    (h : not r ≡ false) (x-is : x ≡ bound b) (y-is : y ≡ withLoss (problemOf s) (roundedUp (totalOf s D e (entryCount e)) (divisor e))) where
+  cost-is : y ≡ withLoss (problemOf s) (linearCost s b)
   unfolding linearCost total
   cost-is = rw (y-is, p, l)
 

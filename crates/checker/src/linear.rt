@@ -2,6 +2,7 @@
 // where the step settles it, a number far from 0 that is moved alike. The total follows by how far the number is below 0 before and
 // after. A mark tells whether the step has set the number, so that none has to be cleared, and a variable that neither the step nor a
 // cited clause names costs no time: it adds nothing.
+use crate::cost;
 use crate::form;
 use crate::independent;
 use crate::marks;
@@ -17,8 +18,9 @@ ghost use lib.IntN.{pos, natAbs, _+ℤ_, _-ℤ_};
 ghost use lib.ListN.{length, set};
 ghost use Rattle.judgement.specs.Finding.{_then_};
 ghost use Rattle.judgement.specs.Integers.{belowZero, roundedUp};
+ghost use Rattle.judgement.specs.Meaning.{withLoss};
 ghost use Rattle.judgement.specs.Literals.{count};
-ghost use Rattle.judgement.specs.Sheet.{variables};
+ghost use Rattle.judgement.specs.Sheet.{variables, problemOf};
 ghost use Rattle.judgement.specs.declared.Kind.the-variants.{WeightedSet};
 ghost use Rattle.judgement.specs.Step.{kindOf, literalCount, literals, tail, divisor, entryCount};
 ghost use Rattle.judgement.specs.Linear.{remainder, totalOf, isWeighted, weightsFinding, linearBound};
@@ -125,7 +127,7 @@ fn bound_by(
 ) -> u64
     requires { ⌜ Weighable (now s) (now list) (now tail) × Prices (now s) (now prices) × (1 ≤ divisor (now tail)) × Stale 1024 (now marks) t × (length (now rest) ≡ 1024) × (t < 2 ^ 62) ⌝ }
     ensures kept { λ _. ⌜ Stale 1024 (now (marks .exit)) (t + 1) × (length (now (rest .exit)) ≡ 1024) ⌝ }
-    ensures bound { λ r. ⌜ r ≡ roundedUp (totalOf (now (s .entry)) (now (list .entry)) (now (tail .entry)) (entryCount (now (tail .entry)))) (divisor (now (tail .entry))) ⌝ }
+    ensures bound { λ r. ⌜ r ≡ withLoss (problemOf (now (s .entry))) (roundedUp (totalOf (now (s .entry)) (now (list .entry)) (now (tail .entry)) (entryCount (now (tail .entry)))) (divisor (now (tail .entry)))) ⌝ }
 {
     let d = read::u16_at(tail, 0) as u64;
     let pairs = sheet::clause_pairs_at(s) as usize;
@@ -137,7 +139,7 @@ fn bound_by(
         sum = signed::plus(sum, gain);
         j += 1;
     }
-    signed::rounded_up(sum, d)
+    cost::with_loss(s, signed::rounded_up(sum, d))
 }
 
 // Neither the divisor nor a weight is 0.

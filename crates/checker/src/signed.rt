@@ -73,7 +73,7 @@ pub(crate) fn gained(x: i64, z: i64, w: u64) -> i64
 // The least number whose d-fold is not below the total.
 pub(crate) fn rounded_up(total: i64, d: u64) -> u64
     requires { ⌜ (natAbs total < 2 ^ 62) × (1 ≤ d) × (d < 2 ^ 16) ⌝ }
-    ensures { λ r. ⌜ r ≡ roundedUp total d ⌝ }
+    ensures { λ r. ⌜ (r ≡ roundedUp total d) × (r < 2 ^ 63) ⌝ }
 {
     if total <= 0 {
         return 0;

@@ -7,6 +7,7 @@ pub mod Membership
 pub mod Models
 pub mod Lists
 pub mod Stored
+pub mod Mark
 pub mod Buffer
 pub mod Table
 pub mod Truth

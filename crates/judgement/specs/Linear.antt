@@ -8,11 +8,11 @@ use lib.Dec.{eqb}
 use lib.IntN.{ℤ, pos, _+ℤ_, _-ℤ_, _*ℤ_}
 use Rattle.judgement.specs.Scan.{allOf, sumOf, countOf}
 use Rattle.judgement.specs.Integers.{sumOfℤ, belowZero, roundedUp}
-use Rattle.judgement.specs.Meaning.{positive, negative, isPositive}
+use Rattle.judgement.specs.Meaning.{positive, negative, isPositive, withLoss}
 use Rattle.judgement.specs.declared.Finding.{Finding}
 use Rattle.judgement.specs.Finding.{need}
 use Rattle.judgement.specs.Literals.{count, code, holds, mentions}
-use Rattle.judgement.specs.Sheet.{variables, costOf, clause}
+use Rattle.judgement.specs.Sheet.{variables, costOf, clause, problemOf}
 use Rattle.judgement.specs.Step.{bound, literals, tail, divisor, entryCount, entryCites, weight}
 
 -- the clause of entry j
@@ -57,7 +57,7 @@ totalOf s D e q = entrySum s e q +ℤ addendSum D (variables s) (remainder s e q
 unfoldable pub total : List ℕ → List ℕ → ℤ
 total s b = totalOf s (literals b) (tail b) (entryCount (tail b))
 
--- its bound: the least number whose d-fold is not below the total
+-- what it comes to: the least number whose d-fold is not below the total
 unfoldable pub linearCost : List ℕ → List ℕ → ℕ
 linearCost s b = roundedUp (total s b) (divisor (tail b))
 
@@ -73,4 +73,4 @@ weightsFinding b k = need (isWeighted (tail b)) 23 k
 
 -- 24, linear bound
 unfoldable pub linearBound : List ℕ → List ℕ → ℕ → Finding
-linearBound s b k = need (eqb (bound b) (linearCost s b)) 24 k
+linearBound s b k = need (eqb (bound b) (withLoss (problemOf s) (linearCost s b))) 24 k

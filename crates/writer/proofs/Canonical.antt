@@ -10,16 +10,17 @@ use native.Mathlib.Decide.{decLt}
 use borrow.Author.Tests.{le-leb}
 use lib.ListN.{length, getD, drop, length-append, length-take, length-map, List·getD-map}
 use Rattle.judgement.specs.Scan.{sumOf, listOf}
-use Rattle.judgement.specs.Meaning.{Assignment, Satisfies, Model, cost, Least, Breaks}
+use Rattle.judgement.specs.Meaning.{Assignment, Satisfies, Model, trueCost, cost, Least, Breaks}
 use Rattle.judgement.specs.Pairs.{pairOffset, pairLength, body}
 use Rattle.judgement.specs.Literals.{count, code, codesIn, holds}
 use Rattle.judgement.specs.declared.Finding.the-variants.{Fine}
-use Rattle.judgement.specs.Sheet.{variables, clauses, clausePairsAt, costOf, clause, problemOf, aloneFinding}
-use Rattle.judgement.specs.Writer.{bytesOf, numbersOf, pairsOf, joined, fileOf, sheetOf}
+use Rattle.judgement.specs.Sheet.{variables, clauses, lossAt, clausePairsAt, costOf, loss, clause, problemOf, aloneFinding}
+use Rattle.judgement.specs.Writer.{bytesOf, numbersOf, pairsOf, joined, fileOf, markOf, lossOf, sheetOf}
 use Rattle.judgement.specs.Facts.{Among, OneOf, In, PairRule, LiteralList, ValidSheet}
 use Rattle.judgement.specs.Demands.{IsBytes}
 use Rattle.judgement.proofs.Laws.Scan.{sum-same, sum-most, length-list, list-at, list-same}
 use Rattle.judgement.proofs.Laws.Stored.{number-below}
+use Rattle.judgement.proofs.Laws.Cost.{loss-below}
 use Rattle.judgement.proofs.Laws.Members.{one-at}
 use Rattle.judgement.proofs.Laws.Membership.{holds-in, in-holds}
 use Rattle.judgement.proofs.Facts.Copy.{members-same}
@@ -28,7 +29,7 @@ use Rattle.judgement.proofs.Complete.Codes.{codes-ascending}
 use Rattle.judgement.proofs.Laws.Findings.{fine-is}
 use Rattle.judgement.proofs.Laws.Buffer.{over-again}
 use Rattle.judgement.proofs.Facts.Layouts.{valid-alone}
-use Rattle.judgement.proofs.Complete.Bytes.{length-numbers, nil-bytes, bytes-are-bytes, append-bytes, numbers-are-bytes}
+use Rattle.judgement.proofs.Complete.Bytes.{length-bytes, length-numbers, nil-bytes, bytes-are-bytes, append-bytes, numbers-are-bytes}
 use Rattle.judgement.proofs.Complete.Written.{pairs-bytes}
 use Rattle.judgement.proofs.Complete.Stored.{codes-back, in-codes, in-member, ascending-fits, ascending-list}
 use Rattle.writer.specs.declared.Comparison.{Comparison}
@@ -36,10 +37,11 @@ use Rattle.writer.specs.declared.Comparison.the-variants.{Before, Same, 
 use Rattle.writer.specs.Order.{Precedes, Rises, clauseCodes}
 use Rattle.writer.specs.Sorted.{compare, byCase, insert, sorted}
 use Rattle.writer.specs.Canonical.{ordered, canonical, writeFinding, shortage, writing, leaves}
-use Rattle.writer.specs.Promises.{ClausesWithin, SameProblem, OneWay}
+use Rattle.writer.specs.Promises.{ClausesWithin, SameProblem, MarkedForLoss, OneWay}
 use Rattle.writer.proofs.Order.{sorted-rises, sorted-has, sorted-from, in-order, in-order-same}
 use Rattle.writer.proofs.Only.{in-place}
-use Rattle.writer.proofs.SheetBack.{headOf, sizeOf, length-sheet, back-variables, back-clauses, back-cost, back-clause, back-valid}
+use Rattle.writer.proofs.SheetBack.{loss-or, headOf, sizeOf, length-sheet, back-variables, back-mark, back-clauses, back-cost, back-loss, back-clause, back-valid}
+use Rattle.writer.proofs.Raw.{lossy-marked}
 
 -- stored lists with the same literals have the same codes
 codes-same : (n : ℕ) (part other : List ℕ) → LiteralList n part → LiteralList n other → ((c : ℕ) → In part c ↔ In other c)
@@ -154,7 +156,7 @@ module _ (s : List ℕ) (valid : ValidSheet s) where
   bodies : List (List ℕ)
   bodies = map (numbersOf 2) lists
 
-  is-written : canonical s ≡ sheetOf costs bodies
+  is-written : canonical s ≡ sheetOf (loss s) costs bodies
   unfolding canonical costs bodies lists
   is-written = refl
 
@@ -176,8 +178,15 @@ module _ (s : List ℕ) (valid : ValidSheet s) where
   m-top : length bodies ≤ 4096
   m-top = let a = m-fits in let b = valid .m in omega (arith, a, b)
 
+  -- a loss that is written has its four bytes in s
+  loss-fits : lossAt s + length (lossOf (loss s)) ≤ clausePairsAt s
+  loss-fits = elim (loss-or (loss s)) [
+    | inl o ↦ rw (o .bytes-are) (omega arith)
+    | inr o ↦ rw (o .bytes-are, length-bytes 4 (loss s), lossy-marked s o .0) (omega arith)
+  ]
+
   -- no longer than the sheet itself
-  size-fits : sizeOf costs bodies ≤ length s
+  size-fits : sizeOf (loss s) costs bodies ≤ length s
   unfolding bodies lists
   size-fits =
       let a = sorted-size (clauseCodes s) (clauses s) in
@@ -186,13 +195,14 @@ module _ (s : List ℕ) (valid : ValidSheet s) where
       let c = lengths-fill s (clausePairsAt s) (clauses s) (valid .pairs) in
       let d = m-fits in
       let e = costs-count in
-      omega (arith, a, b, c, d, e)
+      let f = loss-fits in
+      omega (arith, a, b, c, d, e, f)
 
-  size-top : sizeOf costs bodies ≤ 4294967295
+  size-top : sizeOf (loss s) costs bodies ≤ 4294967295
   size-top = let a = size-fits in let b = valid .size in omega (arith, a, b)
 
   pub canonical-length : length (canonical s) ≤ length s
-  canonical-length = rw (is-written, length-sheet costs bodies) size-fits
+  canonical-length = rw (is-written, length-sheet (loss s) costs bodies) size-fits
 
   -- the codes of a clause ascend
   clause-ascends : (k : ℕ) → Among (clauses s) k → Ascending 0 (variables s) (clauseCodes s k)
@@ -212,17 +222,17 @@ module _ (s : List ℕ) (valid : ValidSheet s) where
   canonical-valid : ValidSheet (canonical s)
   canonical-valid =
       rw is-written
-      (back-valid costs bodies n-fits m-top size-top (rw costs-count (valid .n .0))
+      (back-valid (loss s) costs bodies n-fits m-top size-top (rw costs-count (valid .n .0))
       (λ k w. rw (body-at k, costs-count)
       (ascending-list (variables s) (getD lists (k - 1) []) (valid .n .1)
       (ascends (getD lists (k - 1) []) (one-at lists (k - 1) [] (let e = bodies-count in omega (arith, e, w .0, w .1)))))))
 
   canonical-clauses : clauses (canonical s) ≡ length lists
-  canonical-clauses = rw is-written (back-clauses costs bodies n-fits m-top size-top ∙ bodies-count)
+  canonical-clauses = rw is-written (back-clauses (loss s) costs bodies n-fits m-top size-top ∙ bodies-count)
 
   canonical-clause : (k : ℕ) → Among (length lists) k → clause (canonical s) k ≡ numbersOf 2 (getD lists (k - 1) [])
   canonical-clause k w =
-      rw is-written (back-clause costs bodies n-fits m-top size-top k (rw bodies-count w) ∙ body-at k)
+      rw is-written (back-clause (loss s) costs bodies n-fits m-top size-top k (rw bodies-count w) ∙ body-at k)
 
   canonical-codes : (k : ℕ) → Among (length lists) k → clauseCodes (canonical s) k ≡ getD lists (k - 1) []
   canonical-codes k w =
@@ -239,14 +249,23 @@ module _ (s : List ℕ) (valid : ValidSheet s) where
       (rises-at lists (sorted-rises (clauseCodes s) (clauses s)) (j - 1) (k - 1) (omega arith) (omega arith))
 
   canonical-variables : variables (canonical s) ≡ variables s
-  canonical-variables = rw is-written (back-variables costs bodies n-fits m-top size-top ∙ costs-count)
+  canonical-variables = rw is-written (back-variables (loss s) costs bodies n-fits m-top size-top ∙ costs-count)
 
   canonical-cost : IsBytes s → (v : ℕ) → Among (variables s) v → costOf (canonical s) v ≡ costOf s v
   unfolding costs
   canonical-cost bytes v w =
       let e = list-at (costOf s) (variables s) v w in
       rw is-written
-      (back-cost costs bodies n-fits m-top size-top v (rw costs-count w) (rw e (number-below 4 s bytes (4 + 4 * (v - 1)))) ∙ e)
+      (back-cost (loss s) costs bodies n-fits m-top size-top v (rw costs-count w) (rw e (number-below 4 s bytes (4 + 4 * (v - 1)))) ∙ e)
+
+  canonical-loss : IsBytes s → loss (canonical s) ≡ loss s
+  canonical-loss bytes =
+      let below = loss-below s bytes in
+      rw is-written (back-loss (loss s) costs bodies n-fits m-top size-top (omega (arith, below)))
+
+  -- it is marked exactly where something is lost
+  canonical-mark : IsBytes s → MarkedForLoss (canonical s)
+  canonical-mark bytes = rw (canonical-loss bytes, is-written) (back-mark (loss s) costs bodies n-fits m-top size-top)
 
   -- the literals of a clause are those of its list, written
   same-literals : (k : ℕ) → Among (clauses s) k → (b : List ℕ) → clauseCodes s k ≡ b → (c : ℕ)
@@ -284,6 +303,7 @@ module _ (s : List ℕ) (valid : ValidSheet s) where
       record {
         same-variables = sym canonical-variables;
         same-costs = λ v w. sym (canonical-cost bytes v w);
+        same-loss = sym (canonical-loss bytes);
         there = clauses-there;
         back = clauses-back;
       }
@@ -307,13 +327,14 @@ canonical-same s t p q h =
     list-same (costOf s) (costOf t) (variables s) (h .same-costs) ∙ ap (listOf (costOf t)) n in
     let l = in-order-same s t (ordered s) (ordered t) (in-order s) (in-order t)
     (within-codes s t p q n (h .there)) (within-codes t s q p (sym n) (h .back)) in
-    rw (c, l)
+    rw (h .same-loss, c, l)
 
 same-sym : (s t : List ℕ) → SameProblem s t → SameProblem t s
 same-sym s t h =
     record {
       same-variables = sym (h .same-variables);
       same-costs = λ v w. sym (h .same-costs v (rw (h .same-variables) w));
+      same-loss = sym (h .same-loss);
       there = h .back;
       back = h .there;
     }
@@ -329,6 +350,7 @@ same-trans s t u p q =
     record {
       same-variables = p .same-variables ∙ q .same-variables;
       same-costs = λ v w. p .same-costs v w ∙ q .same-costs v (rw (p .same-variables) at w);
+      same-loss = p .same-loss ∙ q .same-loss;
       there = within-trans s t u (p .there) (q .there);
       back = within-trans u t s (q .back) (p .back);
     }
@@ -358,10 +380,12 @@ same-model s t h α m k l u =
     same-satisfied α (clause s j) (clause t k) (λ c. (e c .1, e c .0)) (m j (w .0) (w .1))
 
 same-cost : (s t : List ℕ) → SameProblem s t → (α : Assignment) → cost (problemOf s) α ≡ cost (problemOf t) α
-unfolding cost
+unfolding trueCost cost
 same-cost s t h α =
+    let paid =
     sum-same (λ v. cond (α v) (costOf s v) 0) (λ v. cond (α v) (costOf t v) 0) (variables s) (λ v w. rw (h .same-costs v w))
-    ∙ ap (sumOf (λ v. cond (α v) (costOf t v) 0)) (h .same-variables)
+    ∙ ap (sumOf (λ v. cond (α v) (costOf t v) 0)) (h .same-variables) in
+    rw (h .same-loss, paid)
 
 same-models : (s t : List ℕ) → SameProblem s t → (α : Assignment) → Model (problemOf s) α ↔ Model (problemOf t) α
 same-models s t h α = (same-model s t h α, same-model t s (same-sym s t h) α)
@@ -406,11 +430,20 @@ unfolding joined
 joined-bytes [] = nil-bytes
 joined-bytes (b ∷ l) = append-bytes (numbersOf 2 b) (joined (map (numbersOf 2) l)) (numbers-are-bytes 2 b) (joined-bytes l)
 
+loss-bytes : (lost : ℕ) → IsBytes (lossOf lost)
+loss-bytes lost = elim (loss-or lost) [
+  | inl o ↦ rw (o .bytes-are) nil-bytes
+  | inr o ↦ rw (o .bytes-are) (bytes-are-bytes 4 lost)
+]
+
 canonical-bytes : (s : List ℕ) → IsBytes (canonical s)
 unfolding canonical sheetOf fileOf
 canonical-bytes s =
-    append-bytes (headOf costs m ++ pairs) (joined bodies) (append-bytes (headOf costs m) pairs head (pairs-bytes _ bodies)) (joined-bytes (ordered s))
+    append-bytes (headOf lost costs m ++ pairs) (joined bodies) (append-bytes (headOf lost costs m) pairs head (pairs-bytes _ bodies)) (joined-bytes (ordered s))
   where
+    lost : ℕ
+    lost = loss s
+
     costs : List ℕ
     costs = listOf (costOf s) (variables s)
 
@@ -420,14 +453,19 @@ canonical-bytes s =
     m : ℕ
     m = length bodies
 
-    pairs : List ℕ
-    pairs = pairsOf (length (headOf costs m) + 8 * m) bodies
+    field : ℕ
+    field = markOf lost + length costs
 
-    head : IsBytes (headOf costs m)
+    pairs : List ℕ
+    pairs = pairsOf (length (headOf lost costs m) + 8 * m) bodies
+
+    head : IsBytes (headOf lost costs m)
     head =
-        append-bytes (bytesOf 2 (length costs) ++ bytesOf 2 m) (numbersOf 4 costs)
-        (append-bytes (bytesOf 2 (length costs)) (bytesOf 2 m) (bytes-are-bytes 2 (length costs)) (bytes-are-bytes 2 m))
-        (numbers-are-bytes 4 costs)
+        append-bytes (bytesOf 2 field ++ bytesOf 2 m ++ numbersOf 4 costs) (lossOf lost)
+        (append-bytes (bytesOf 2 field ++ bytesOf 2 m) (numbersOf 4 costs)
+        (append-bytes (bytesOf 2 field) (bytesOf 2 m) (bytes-are-bytes 2 field) (bytes-are-bytes 2 m))
+        (numbers-are-bytes 4 costs))
+        (loss-bytes lost)
 
 pub one-way : (s : List ℕ) → ValidSheet s → IsBytes s → OneWay s
 one-way s p b =
@@ -438,8 +476,9 @@ one-way s p b =
       bytes = canonical-bytes s;
       no-longer = canonical-length s p;
       rises = canonical-rises s p;
+      mark = canonical-mark s p b;
       same = same;
-      only = λ t q c h o. sym (in-place t q c o) ∙ canonical-same t s q p (same-sym s t h);
+      only = λ t q c h o m. sym (in-place t q c o m) ∙ canonical-same t s q p (same-sym s t h);
       models = same-models s (canonical s) same;
       costs = same-cost s (canonical s) same;
       least = λ L. (same-least s (canonical s) same L, same-least (canonical s) s back L);

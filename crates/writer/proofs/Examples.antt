@@ -1,6 +1,6 @@
--- Worked examples: what is written of document 01's sheet A, of the same problem listed otherwise, and of lists that begin
--- others; the answers to buffers of 35, 36 and 38 bytes and to a file that is no sheet; and a record that keeps to its own
--- sheet.
+-- Worked examples: what is written of document 01's sheet A, of the same problem listed otherwise, of lists that begin others, and
+-- of marked sheets; the answers to buffers of 35, 36 and 38 bytes and to a file that is no sheet; and a record that keeps to its
+-- own sheet.
 -- Assumes nothing.
 use Prim.Native.Nat.{ℕ, _-_}
 use mathlib.Core.Path.{_≡_, refl}
@@ -12,7 +12,7 @@ use Rattle.judgement.specs.Finding.{overAll}
 use Rattle.judgement.specs.Number.{numberAt}
 use Rattle.judgement.specs.Pairs.{body, bodyStart, pairFinding, pairsFinding}
 use Rattle.judgement.specs.Literals.{risesAt, rises, literalsFine}
-use Rattle.judgement.specs.Sheet.{sheetHead, sheetPairs, clauseForm, sheetFinding, aloneFinding}
+use Rattle.judgement.specs.Sheet.{marked, variables, lossSize, loss, sheetHead, sheetPairs, clauseForm, sheetFinding, aloneFinding}
 use Rattle.judgement.specs.Computed.{accepted, refused, allRight}
 use Rattle.judgement.specs.Writer.{bytesOf, numbersOf, pairsOf, joined, fileOf, sheetOf}
 use Rattle.judgement.proofs.Cases.Starred.{sheetA, recordA}
@@ -27,21 +27,35 @@ second = 2 ∷ 0 ∷ 5 ∷ 0 ∷ []
 
 -- the clauses the other way round, and one of them twice
 abbrev otherA : List ℕ
-otherA = sheetOf (3 ∷ 5 ∷ []) (second ∷ first ∷ second ∷ [])
+otherA = sheetOf 0 (3 ∷ 5 ∷ []) (second ∷ first ∷ second ∷ [])
 
 a-is-canonical : canonical sheetA ≡ sheetA
-unfolding sheetA listOf numberAt body bytesOf numbersOf pairsOf joined fileOf sheetOf compare insert sorted canonical
+unfolding sheetA listOf numberAt marked variables lossSize loss body bytesOf numbersOf pairsOf joined fileOf sheetOf compare insert sorted canonical
 a-is-canonical = refl
 
 a-from-another : canonical otherA ≡ sheetA
-unfolding sheetA listOf numberAt body bytesOf numbersOf pairsOf joined fileOf sheetOf compare insert sorted canonical
+unfolding sheetA listOf numberAt marked variables lossSize loss body bytesOf numbersOf pairsOf joined fileOf sheetOf compare insert sorted canonical
 a-from-another = refl
 
 -- a list before those that begin with it, the empty one first
-short-first : canonical (sheetOf (3 ∷ 5 ∷ []) (first ∷ (2 ∷ 0 ∷ []) ∷ [] ∷ []))
-    ≡ sheetOf (3 ∷ 5 ∷ []) ([] ∷ (2 ∷ 0 ∷ []) ∷ first ∷ [])
-unfolding listOf numberAt body bytesOf numbersOf pairsOf joined fileOf sheetOf compare insert sorted canonical
+short-first : canonical (sheetOf 0 (3 ∷ 5 ∷ []) (first ∷ (2 ∷ 0 ∷ []) ∷ [] ∷ []))
+    ≡ sheetOf 0 (3 ∷ 5 ∷ []) ([] ∷ (2 ∷ 0 ∷ []) ∷ first ∷ [])
+unfolding listOf numberAt marked variables lossSize loss body bytesOf numbersOf pairsOf joined fileOf sheetOf compare insert sorted canonical
 short-first = refl
+
+-- a mark whose loss is 0 is left out, and one whose loss is not stays
+abbrev markedA : ℕ → List ℕ
+markedA lost =
+    bytesOf 2 0x8002 ++ bytesOf 2 2 ++ numbersOf 4 (3 ∷ 5 ∷ []) ++ bytesOf 4 lost
+    ++ pairsOf 32 (second ∷ first ∷ []) ++ second ++ first
+
+idle-mark-dropped : canonical (markedA 0) ≡ sheetA
+unfolding sheetA listOf numberAt marked variables lossSize loss body bytesOf numbersOf pairsOf joined fileOf sheetOf compare insert sorted canonical
+idle-mark-dropped = refl
+
+mark-kept : canonical (markedA 7) ≡ sheetOf 7 (3 ∷ 5 ∷ []) (first ∷ second ∷ [])
+unfolding listOf numberAt marked variables lossSize loss body bytesOf numbersOf pairsOf joined fileOf sheetOf compare insert sorted canonical
+mark-kept = refl
 
 -- numbers, not bytes: 255 before 256, whose low byte is 0
 numbers-compared : sorted (λ k. (257 - k) ∷ []) 2 ≡ (255 ∷ []) ∷ (256 ∷ []) ∷ []
@@ -51,23 +65,23 @@ numbers-compared = refl
 -- ---- answers
 
 exact-room : writing otherA 36 ≡ record { number = 0; place = 0; length = 36 }
-unfolding allOf overAll listOf numberAt body bodyStart pairFinding pairsFinding risesAt rises literalsFine sheetHead sheetPairs clauseForm sheetFinding aloneFinding bytesOf numbersOf pairsOf joined fileOf sheetOf compare insert sorted canonical shortage writeFinding writing
+unfolding allOf overAll listOf numberAt marked variables lossSize loss body bodyStart pairFinding pairsFinding risesAt rises literalsFine sheetHead sheetPairs clauseForm sheetFinding aloneFinding bytesOf numbersOf pairsOf joined fileOf sheetOf compare insert sorted canonical shortage writeFinding writing
 exact-room = refl
 
 one-byte-short : writing otherA 35 ≡ record { number = 25; place = 0; length = 0 }
-unfolding allOf overAll listOf numberAt body bodyStart pairFinding pairsFinding risesAt rises literalsFine sheetHead sheetPairs clauseForm sheetFinding aloneFinding bytesOf numbersOf pairsOf joined fileOf sheetOf compare insert sorted canonical shortage writeFinding writing
+unfolding allOf overAll listOf numberAt marked variables lossSize loss body bodyStart pairFinding pairsFinding risesAt rises literalsFine sheetHead sheetPairs clauseForm sheetFinding aloneFinding bytesOf numbersOf pairsOf joined fileOf sheetOf compare insert sorted canonical shortage writeFinding writing
 one-byte-short = refl
 
 no-sheet : writing (2 ∷ 0 ∷ []) 9 ≡ record { number = 2; place = 0; length = 0 }
-unfolding numberAt sheetHead sheetFinding aloneFinding writeFinding writing
+unfolding numberAt marked variables lossSize sheetHead sheetFinding aloneFinding writeFinding writing
 no-sheet = refl
 
 behind-stays : leaves otherA (replicate 38 7) ≡ sheetA ++ (7 ∷ 7 ∷ [])
-unfolding sheetA allOf overAll listOf numberAt body bodyStart pairFinding pairsFinding risesAt rises literalsFine sheetHead sheetPairs clauseForm sheetFinding aloneFinding bytesOf numbersOf pairsOf joined fileOf sheetOf compare insert sorted canonical shortage writeFinding leaves
+unfolding sheetA allOf overAll listOf numberAt marked variables lossSize loss body bodyStart pairFinding pairsFinding risesAt rises literalsFine sheetHead sheetPairs clauseForm sheetFinding aloneFinding bytesOf numbersOf pairsOf joined fileOf sheetOf compare insert sorted canonical shortage writeFinding leaves
 behind-stays = refl
 
 refusal-leaves : leaves (2 ∷ 0 ∷ []) (7 ∷ 8 ∷ []) ≡ 7 ∷ 8 ∷ []
-unfolding numberAt sheetHead sheetFinding aloneFinding writeFinding leaves
+unfolding numberAt marked variables lossSize sheetHead sheetFinding aloneFinding writeFinding leaves
 refusal-leaves = refl
 
 -- ---- a record keeps to its own sheet

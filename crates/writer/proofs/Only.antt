@@ -1,4 +1,5 @@
--- A valid sheet whose clauses stand in order is its own canonical sheet: the pair rule leaves no byte of it free.
+-- A valid sheet whose clauses stand in order, with a mark exactly where something is lost, is its own canonical sheet: the pair rule
+-- leaves no byte of it free.
 -- Assumes nothing.
 use Prim.Native.Nat.{ℕ, zero, suc, _+_, _-_, _*_, _≤_, _<_}
 use mathlib.Core.Path.{_≡_, refl, sym, ap, _∙_}
@@ -8,17 +9,22 @@ use native.Mathlib.Omega.{arith}
 use native.Mathlib.Decide.{decLt}
 use lib.ListN.{length, take, drop, length-take, length-drop, take-append-drop, drop-of-length-le}
 use lib.Seq.{take-add, drop-drop}
+use Rattle.judgement.specs.Number.{numberAt}
 use Rattle.judgement.specs.Pairs.{pairOffset, pairLength, body}
-use Rattle.judgement.specs.Sheet.{clauses, clausePairsAt}
-use Rattle.judgement.specs.Writer.{bytesOf, pairsOf, joined, fileOf}
+use Rattle.judgement.specs.Sheet.{variables, clauses, clausePairsAt, loss}
+use Rattle.judgement.specs.Writer.{bytesOf, pairsOf, joined, fileOf, markOf}
 use Rattle.judgement.specs.Facts.{OneOf, PairRule, ValidSheet}
 use Rattle.judgement.specs.Demands.{IsBytes}
-use Rattle.judgement.proofs.Laws.Stored.{bytes-again}
+use Rattle.judgement.proofs.Laws.Stored.{number-below, bytes-again}
+use Rattle.judgement.proofs.Laws.Mark.{mark-or, variables-are}
+use Rattle.judgement.proofs.Complete.Bytes.{length-bytes}
 use Rattle.judgement.proofs.Facts.Shown.{body-ends}
 use Rattle.writer.specs.Order.{Leads, Rises, clauseCodes, InPlace}
 use Rattle.writer.specs.Canonical.{canonical}
-use Rattle.writer.specs.Words.{wordOf, numberOf, codesOf, bodyOf, Words, SortedRange, headBytes}
+use Rattle.writer.specs.Promises.{MarkedForLoss}
+use Rattle.writer.specs.Words.{wordOf, numberOf, codesOf, bodyOf, Words, SortedRange, headEnd, headBytes}
 use Rattle.writer.proofs.Merging.{words-wider}
+use Rattle.writer.proofs.SheetBack.{loss-or}
 use Rattle.writer.proofs.Raw.{raw-canonical}
 
 -- ---- a file with a table of pairs, from its pairs on
@@ -175,21 +181,53 @@ module _ (s : List ℕ) (few : clauses s < 65536) (order : InPlace s) where
     every = λ k l u. from-every 0 (clauses s) k (omega arith) l u;
   }
 
--- what stands before the pairs
-head-stands : (s : List ℕ) (table : ℕ) → IsBytes s → 4 ≤ table → table ≤ length s → headBytes s table (clauses s) ≡ take table s
+-- ---- what stands before the pairs of a sheet whose mark tells of a loss
+
+-- its pairs begin where those of the written sheet do
+end-stands : (s : List ℕ) → MarkedForLoss s → headEnd s ≡ clausePairsAt s
+unfolding headEnd
+end-stands s due = elim (mark-or s) [
+  | inl m ↦ elim (loss-or (loss s)) [
+    | inl o ↦ absurd (due .0 (m .is) (o .is))
+    | inr o ↦ rw (o .bytes-are, m .size, length-bytes 4 (loss s))
+  ]
+  | inr m ↦ elim (loss-or (loss s)) [
+    | inl o ↦ rw (o .bytes-are, m .size)
+    | inr o ↦ absurd (o .is (m .lost))
+  ]
+]
+
+-- and its first field is theirs
+field-stands : (s : List ℕ) → IsBytes s → MarkedForLoss s → markOf (loss s) + variables s ≡ numberAt s 0 2
+field-stands s bytes due =
+    let v = variables-are s in
+    let b = number-below 2 s bytes 0 in
+    elim (mark-or s) [
+      | inl m ↦ elim (loss-or (loss s)) [
+        | inl o ↦ absurd (due .0 (m .is) (o .is))
+        | inr o ↦ omega (arith, o .mark-is, m .field, v, b)
+      ]
+      | inr m ↦ elim (loss-or (loss s)) [
+        | inl o ↦ omega (arith, o .mark-is, m .field, v)
+        | inr o ↦ absurd (o .is (m .lost))
+      ]
+    ]
+
+head-stands : (s : List ℕ) (table : ℕ) → IsBytes s → 4 ≤ table → table ≤ length s → headEnd s ≡ table
+    → markOf (loss s) + variables s ≡ numberAt s 0 2 → headBytes s (clauses s) ≡ take table s
 unfolding headBytes
-head-stands s table bytes four h =
+head-stands s table bytes four h end field =
     let z : table ≡ 2 + (2 + (table - 4)) = omega arith in
-    rw (bytes-again 2 s bytes 2 (omega arith))
+    rw (end, field, bytes-again 2 s bytes 0 (omega arith), bytes-again 2 s bytes 2 (omega arith))
     (sym (ap (λ (n : ℕ). take n s) z
     ∙ rw (take-add 2 (2 + (table - 4)) s, take-add 2 (table - 4) (drop 2 s), drop-drop 2 2 s, append-assoc)))
 
-pub in-place : (s : List ℕ) → ValidSheet s → IsBytes s → InPlace s → canonical s ≡ s
+pub in-place : (s : List ℕ) → ValidSheet s → IsBytes s → InPlace s → MarkedForLoss s → canonical s ≡ s
 unfolding fileOf
-in-place s valid bytes order =
+in-place s valid bytes order due =
     let w = wordsFrom s 0 (clauses s) in
     let room = valid .room in
-    let h = head-stands s (clausePairsAt s) bytes (omega arith) (omega arith) in
+    let h = head-stands s (clausePairsAt s) bytes (omega arith) (omega arith) (end-stands s due) (field-stands s bytes due) in
     let l : length (take (clausePairsAt s) s) ≡ clausePairsAt s = length-take (clausePairsAt s) s ∙ omega arith in
     let b = from-bodies s 0 (clauses s) (omega arith) in
     let p = from-pairs s bytes (clausePairsAt s) (clauses s) room (valid .pairs) in

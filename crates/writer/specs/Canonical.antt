@@ -8,7 +8,7 @@ use Rattle.judgement.specs.Scan.{listOf}
 use Rattle.judgement.specs.declared.Finding.{Finding}
 use Rattle.judgement.specs.declared.Written.{Written}
 use Rattle.judgement.specs.Finding.{need, _then_}
-use Rattle.judgement.specs.Sheet.{variables, clauses, costOf, aloneFinding}
+use Rattle.judgement.specs.Sheet.{variables, clauses, costOf, loss, aloneFinding}
 use Rattle.judgement.specs.Writer.{numbersOf, sheetOf}
 use Rattle.judgement.specs.Buffer.{writtenBy, leftBy}
 use Rattle.writer.specs.Order.{clauseCodes}
@@ -18,9 +18,9 @@ use Rattle.writer.specs.Sorted.{sorted}
 abbrev pub ordered : List ℕ → List (List ℕ)
 ordered s = sorted (clauseCodes s) (clauses s)
 
--- the sheet of the same costs and these clauses
+-- the sheet of the same loss and costs and these clauses; it has the mark where something is lost
 unfoldable pub canonical : List ℕ → List ℕ
-canonical s = sheetOf (listOf (costOf s) (variables s)) (map (numbersOf 2) (ordered s))
+canonical s = sheetOf (loss s) (listOf (costOf s) (variables s)) (map (numbersOf 2) (ordered s))
 
 -- 25: the buffer has fewer bytes
 unfoldable pub shortage : List ℕ → ℕ → Finding

@@ -2,12 +2,13 @@
 -- Assumes nothing.
 use Prim.Native.Nat.{ℕ, _≤_, _<_}
 use mathlib.Core.Path.{_≡_}
+use mathlib.Core.Bool.{true}
 use mathlib.Core.List.{List, _++_}
 use mathlib.Core.Logic.{_↔_, _≢_}
 use lib.ListN.{length, take, drop}
 use Rattle.judgement.specs.declared.Written.{Written}
 use Rattle.judgement.specs.Meaning.{Assignment, Model, cost, Least, Unsatisfiable}
-use Rattle.judgement.specs.Sheet.{mostBytes, variables, clauses, costOf, clause, problemOf}
+use Rattle.judgement.specs.Sheet.{mostBytes, marked, variables, clauses, costOf, loss, clause, problemOf}
 use Rattle.judgement.specs.Judgement.{judgement}
 use Rattle.judgement.specs.Facts.{Among, In, ValidSheet}
 use Rattle.judgement.specs.Demands.{IsBytes}
@@ -44,12 +45,17 @@ abbrev pub ClausesWithin : List ℕ → List ℕ → Type 0
 ClausesWithin s t =
     (k : ℕ) → Among (clauses s) k → (j : ℕ) × Among (clauses t) j × ((c : ℕ) → In (clause s k) c ↔ In (clause t j) c)
 
--- the same variables, costs and set of clauses
+-- the same variables, costs, loss and set of clauses
 pub record SameProblem (s t : List ℕ) : Type 0 where
   pub same-variables : variables s ≡ variables t
   pub same-costs : (v : ℕ) → Among (variables s) v → costOf s v ≡ costOf t v
+  pub same-loss : loss s ≡ loss t
   pub there : ClausesWithin s t
   pub back : ClausesWithin t s
+
+-- the mark tells of a loss: none is lost where it is missing, and it is missing where none is
+abbrev pub MarkedForLoss : List ℕ → Type 0
+MarkedForLoss s = (marked s ≡ true) ↔ (loss s ≢ 0)
 
 -- of a valid sheet s
 pub record OneWay (s : List ℕ) : Type 0 where
@@ -57,11 +63,12 @@ pub record OneWay (s : List ℕ) : Type 0 where
   pub valid : ValidSheet (canonical s)
   pub bytes : IsBytes (canonical s)
   pub no-longer : length (canonical s) ≤ length s
-  -- its clauses stand in order
+  -- its clauses stand in order, and it has the mark exactly where something is lost
   pub rises : InPlace (canonical s)
-  -- it states the same problem, and no other valid sheet that does has its clauses in order
+  pub mark : MarkedForLoss (canonical s)
+  -- it states the same problem, and no other valid sheet that does has its clauses in order and such a mark
   pub same : SameProblem s (canonical s)
-  pub only : (t : List ℕ) → ValidSheet t → IsBytes t → SameProblem s t → InPlace t → t ≡ canonical s
+  pub only : (t : List ℕ) → ValidSheet t → IsBytes t → SameProblem s t → InPlace t → MarkedForLoss t → t ≡ canonical s
   -- so it has the same models at the same costs, what is least on the one is so on the other, and if there is no model of the
   -- one, there is none of the other
   pub models : (α : Assignment) → Model (problemOf s) α ↔ Model (problemOf (canonical s)) α

@@ -1,15 +1,16 @@
 // Writing the sheet with its clauses in a given order.
 use crate::words;
+use judgement::MARK;
 use judgement::Written;
 ghost use mathlib.Core.Path.{_≡_};
 ghost use mathlib.Core.List.{map};
-ghost use Prim.Native.Nat.{_+_, _*_, _≤_};
+ghost use Prim.Native.Nat.{_+_, _*_, _^_, _≤_, _<_};
 ghost use lib.ListN.{length};
-ghost use Rattle.judgement.specs.Sheet.{clauses};
-ghost use Rattle.judgement.specs.Writer.{pairsOf, joined};
+ghost use Rattle.judgement.specs.Sheet.{variables, clauses, loss};
+ghost use Rattle.judgement.specs.Writer.{pairsOf, joined, markOf};
 ghost use Rattle.judgement.specs.Buffer.{over, writtenBy, leftBy};
 ghost use Rattle.writer.specs.Canonical.{canonical, shortage};
-ghost use Rattle.writer.specs.Words.{Known, bodyOf, Words, SortedRange, headBytes};
+ghost use Rattle.writer.specs.Words.{Known, bodyOf, Words, SortedRange, headEnd, headBytes};
 
 // How many bytes the bodies of these clauses have.
 fn bodies_size(s: &[u8], table: usize, order: &[u64]) -> usize
@@ -61,26 +62,48 @@ fn write_bodies(s: &[u8], table: usize, order: &[u64], out: &mut [u8])
     }
 }
 
-// What stands before the pairs of the sheet, with another number of clauses.
-fn write_head(s: &[u8], table: usize, count: u16, out: &mut [u8])
-    requires { ⌜ (4 ≤ table) × (table ≤ length (now s)) × (table ≤ length (now out)) ⌝ }
-    ensures { λ _. ⌜ now (out .exit) ≡ over (headBytes (now (s .entry)) table count) (now (out .entry)) ⌝ }
+// n, with the mark where something is lost.
+fn first_field(s: &[u8]) -> u16
+    ensures { λ r. ⌜ r ≡ markOf (loss (now (s .entry))) + variables (now (s .entry)) ⌝ }
 {
-    layout::put_bytes(out, &s[0..2]);
+    let n = sheet::variable_count(s);
+    if sheet::loss(s) == 0 {
+        return n as u16;
+    }
+    (MARK + n) as u16
+}
+
+// Where the pairs of the written sheet begin: its costs stand before them, and its loss where there is one.
+fn head_end(s: &[u8]) -> usize
+    ensures { λ r. ⌜ (r ≡ headEnd (now (s .entry))) × (r < 2 ^ 19) ⌝ }
+{
+    let costs_end = sheet::loss_at(s) as usize;
+    if sheet::loss(s) == 0 {
+        return costs_end;
+    }
+    costs_end + 4
+}
+
+// What stands before these pairs, for so many clauses.
+fn write_head(s: &[u8], end: usize, count: u16, out: &mut [u8])
+    requires { ⌜ (4 ≤ end) × (end ≤ length (now s)) × (end ≤ length (now out)) × (end ≡ headEnd (now s)) ⌝ }
+    ensures { λ _. ⌜ now (out .exit) ≡ over (headBytes (now (s .entry)) count) (now (out .entry)) ⌝ }
+{
+    layout::put_u16(out, first_field(s));
     layout::put_u16(&mut out[2..], count);
-    layout::put_bytes(&mut out[4..], &s[4..table]);
+    layout::put_bytes(&mut out[4..], &s[4..end]);
 }
 
 // The sheet with the clauses in this order.
-fn write_order(s: &[u8], table: usize, order: &[u64], out: &mut [u8])
+fn write_order(s: &[u8], table: usize, end: usize, order: &[u64], out: &mut [u8])
     requires { ⌜ Known (now s) table × SortedRange (now s) 0 (clauses (now s)) (now order)
-        × (length (now order) ≤ 4096) × (length (canonical (now s)) ≤ length (now out)) ⌝ }
+        × (length (now order) ≤ 4096) × (length (canonical (now s)) ≤ length (now out)) × (end ≡ headEnd (now s)) ⌝ }
     ensures { λ _. ⌜ now (out .exit) ≡ over (canonical (now (s .entry))) (now (out .entry)) ⌝ }
 {
     let q = order.len();
-    write_head(s, table, q as u16, out);
-    let start = table + 8 * q;
-    write_pairs(s, table, order, start, &mut out[table..]);
+    write_head(s, end, q as u16, out);
+    let start = end + 8 * q;
+    write_pairs(s, table, order, start, &mut out[end..]);
     write_bodies(s, table, order, &mut out[start..]);
 }
 
@@ -90,7 +113,8 @@ pub(crate) fn write_if_room(s: &[u8], table: usize, order: &[u64], out: &mut [u8
     ensures { λ r. ⌜ (r ≡ writtenBy (shortage (now (s .entry)) (length (now (out .entry)))) (canonical (now (s .entry))))
         × (now (out .exit) ≡ leftBy (shortage (now (s .entry)) (length (now (out .entry)))) (canonical (now (s .entry))) (now (out .entry))) ⌝ }
 {
-    let size = table + 8 * order.len() + bodies_size(s, table, order);
+    let end = head_end(s);
+    let size = end + 8 * order.len() + bodies_size(s, table, order);
     if out.len() < size {
         return Written {
             number: 25,
@@ -98,7 +122,7 @@ pub(crate) fn write_if_room(s: &[u8], table: usize, order: &[u64], out: &mut [u8
             length: 0,
         };
     }
-    write_order(s, table, order, out);
+    write_order(s, table, end, order, out);
     Written {
         number: 0,
         place: 0,

@@ -2,6 +2,7 @@
 //! computes both sides, so a theorem that holds is an agreement, and one that is refused names its case.
 
 use reference::{judge, show, Answer, Verdict};
+use samples::draft::Head;
 use samples::outcome::{Outcome, Tally};
 use samples::{widening, Sample};
 use std::fmt::Write;
@@ -20,31 +21,59 @@ pub struct Case {
     pub aimed: &'static str,
     /// Whether a resolution among its good steps is wider than it has to be.
     pub wider: bool,
+    /// Whether its sheet has a mark.
+    pub marked: bool,
 }
 
-/// The first small samples of the stream, as many of each outcome, `count` in all or fewer where an outcome is rare. Of some
-/// outcomes half have wider resolutions.
+/// The first small samples of the stream, as many of each outcome, `count` in all or fewer where an outcome is rare. Half of
+/// each outcome at least have marked sheets, and of some outcomes half have wider resolutions.
 pub fn choose(seed: u64, count: usize) -> Vec<Case> {
-    let share = count.div_ceil(Outcome::of_short_files().count());
-    let (mut met, mut plain) = (Tally::default(), Tally::default());
-    let mut cases = Vec::new();
-    for sample in samples::stream(seed).take(TRIES) {
-        if cases.len() >= count {
-            break;
+    let mut room = Room::new(count.div_ceil(Outcome::of_short_files().count()));
+    let small = samples::stream(seed).take(TRIES).filter_map(small);
+    let chosen = small.filter(|case| room.take(case));
+    chosen.take(count).collect()
+}
+
+/// What is left to be chosen.
+struct Room {
+    /// How many cases there are to be of an outcome.
+    share: usize,
+    met: Tally,
+    /// Those without wider resolutions, and those without a mark.
+    plain: Tally,
+    unmarked: Tally,
+}
+
+impl Room {
+    fn new(share: usize) -> Self {
+        Room {
+            share,
+            met: Tally::default(),
+            plain: Tally::default(),
+            unmarked: Tally::default(),
         }
-        let Some(case) = small(sample) else { continue };
-        let outcome = Outcome::of(&case.answer);
-        let most = share - least_wider(outcome, share);
-        if met.of(outcome) == share || (!case.wider && plain.of(outcome) == most) {
-            continue;
-        }
-        met.add(outcome);
-        if !case.wider {
-            plain.add(outcome);
-        }
-        cases.push(case);
     }
-    cases
+
+    /// Takes a case in; false where there are enough of its sort.
+    fn take(&mut self, case: &Case) -> bool {
+        let (outcome, share) = (Outcome::of(&case.answer), self.share);
+        let most_plain = share - least_wider(outcome, share);
+        let most_unmarked = share - share / 2;
+        if self.met.of(outcome) == share
+            || (!case.wider && self.plain.of(outcome) == most_plain)
+            || (!case.marked && self.unmarked.of(outcome) == most_unmarked)
+        {
+            return false;
+        }
+        self.met.add(outcome);
+        if !case.wider {
+            self.plain.add(outcome);
+        }
+        if !case.marked {
+            self.unmarked.add(outcome);
+        }
+        true
+    }
 }
 
 /// How many cases of an outcome have wider resolutions at least: half of those that hang on what resolutions are asked for.
@@ -62,12 +91,14 @@ fn small(sample: Sample) -> Option<Case> {
     }
     let answer = judge(&sample.sheet, &sample.record);
     let wider = widening::passed(&sample, &answer) > 0;
+    let marked = Head::read(&sample.sheet).is_some_and(|head| head.is_marked);
     Some(Case {
         sheet: sample.sheet,
         record: sample.record,
         answer,
         aimed: sample.aimed,
         wider,
+        marked,
     })
 }
 

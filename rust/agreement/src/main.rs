@@ -18,8 +18,9 @@ fn main() -> ExitCode {
     let cases = agreement::choose(seed, count);
     let tally = agreement::tally(&cases);
     let wider = cases.iter().filter(|case| case.wider).count();
+    let marked = cases.iter().filter(|case| case.marked).count();
     println!(
-        "seed {seed}, {} cases, {wider} with wider resolutions, {tally}",
+        "seed {seed}, {} cases, {wider} with wider resolutions, {marked} with marked sheets, {tally}",
         cases.len()
     );
     let mut outcomes = Outcome::of_short_files();

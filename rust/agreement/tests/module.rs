@@ -2,6 +2,7 @@
 
 use agreement::{choose, least_wider, module, tally, Case};
 use reference::{judge, show};
+use samples::draft::Head;
 use samples::examples::{example, Example};
 use samples::outcome::Outcome;
 
@@ -9,12 +10,14 @@ fn case(name: &str) -> Case {
     let Example { sheet, record, .. } = example(name);
     let answer = judge(&sheet, &record);
     let (aimed, wider) = ("an example", name == "R1");
+    let marked = name.starts_with('L');
     Case {
         sheet,
         record,
         answer,
         aimed,
         wider,
+        marked,
     }
 }
 
@@ -35,6 +38,8 @@ fn answers_are_written_by_their_names() {
     assert_eq!(answer_of("C1"), "refused 19 1");
     assert_eq!(answer_of("R1"), "accepted 3 1 9");
     assert_eq!(answer_of("R2"), "refused 17 4");
+    assert_eq!(answer_of("L1"), "accepted 7 1 5");
+    assert_eq!(answer_of("L2"), "refused 24 1");
 }
 
 /// The head takes in what the theorems are written with.
@@ -91,4 +96,29 @@ fn half_of_what_hangs_on_resolutions_has_wider_ones() {
         assert_eq!(least_wider(outcome, share), 2, "{outcome}");
     }
     assert!(cases.iter().any(|case| !case.wider));
+}
+
+/// Marked sheets are held to the definitions beside every outcome, and where an answer hangs on the loss, one that costs
+/// something.
+#[test]
+fn half_of_each_outcome_has_a_marked_sheet() {
+    let share = 4;
+    let cases = choose(9, share * Outcome::of_short_files().count());
+    let losses = |outcome: Outcome| {
+        let of = cases
+            .iter()
+            .filter(move |case| Outcome::of(&case.answer) == outcome && case.marked);
+        of.map(|case| Head::read(&case.sheet).unwrap().loss(&case.sheet))
+    };
+    for outcome in Outcome::of_short_files() {
+        let marked = losses(outcome).count();
+        println!("{outcome}: {marked} of {share} marked");
+        assert!((share / 2..=share).contains(&marked), "{outcome}");
+    }
+    let hang = [11, 13, 15, 24].map(Outcome::Refused);
+    for outcome in hang.into_iter().chain([Outcome::Least, Outcome::Within]) {
+        let mut losses = losses(outcome).flatten();
+        assert!(losses.any(|loss| loss > 0), "{outcome}");
+    }
+    assert!(cases.iter().any(|case| !case.marked));
 }

@@ -55,7 +55,7 @@ pub(crate) fn check(
     }
     // A record of k steps has 8 k bytes at least, so that twice the number fits.
     let settled = 2 * k as u32;
-    let mut sum = 0;
+    let mut sum = sheet.loss();
     for &stored in claim.literals {
         let code = code(stored);
         stamps.0[code % CODES] = settled;

@@ -116,14 +116,15 @@ pub(crate) fn check(
     for &[a, b, c, d, ..] in cited {
         total += weights.unsettled(sheet, number([a, b, c, d]), divisor);
     }
-    if !is_bound(claim.bound, total, divisor) {
+    // The loss is not divided. A bound below it becomes one that is far too great.
+    if !is_bound(claim.bound.wrapping_sub(sheet.loss()), total, divisor) {
         return Err(refusal::LINEAR_BOUND);
     }
     Ok(())
 }
 
-/// Whether the bound is the least whose product with the divisor is not below the total, which takes no division. A total is
-/// below 2^43 times the divisor: a bound from there on is too great, and its product may not fit.
+/// Whether a bound, which the loss was taken off, is the least whose product with the divisor is not below the total. This
+/// takes no division. A total is below 2^43 times the divisor: a bound from there on is too great, and its product may not fit.
 fn is_bound(bound: u64, total: i64, divisor: i64) -> bool {
     let above = divisor.wrapping_mul(bound as i64).wrapping_sub(total);
     bound < 1 << 43 && above >= 0 && (above < divisor || bound == 0)

@@ -18,7 +18,8 @@ pub(crate) fn check(sheet: &Sheet, record: &Record) -> Result<(), Fault> {
     }
     let positive = (1..=sheet.variable_count()).map(|variable| 2 * variable);
     let paid = positive.filter(|&code| record.is_true(code));
-    if paid.map(|code| sheet.cost(code)).sum::<u64>() != record.claim {
+    let paid: u64 = paid.map(|code| sheet.cost(code)).sum();
+    if sheet.loss() + paid != record.claim {
         return fault(refusal::CLAIMED_COST, 0);
     }
     Ok(())

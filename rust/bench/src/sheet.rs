@@ -7,12 +7,19 @@ use crate::refusal;
 pub(crate) struct Parts<'a> {
     bytes: &'a [u8],
     pub costs: &'a [[u8; 4]],
+    /// The standing loss, 0 where the sheet has no mark.
+    pub loss: u32,
     pairs: Pairs<'a>,
+    /// Where the clauses begin.
+    bodies_start: usize,
 }
 
 /// As many variables and clauses as a sheet may have.
 const VARIABLES: usize = 1024;
 const CLAUSES: usize = 4096;
+
+/// The bit of the first number that tells of a loss; the rest of it is the number of variables.
+pub(crate) const MARK: usize = 0x8000;
 
 impl<'a> Parts<'a> {
     pub fn read(bytes: &'a [u8]) -> Result<Self, Fault> {
@@ -33,26 +40,28 @@ impl<'a> Parts<'a> {
 
     fn head(bytes: &'a [u8]) -> Option<Self> {
         let ([a, b, c, d], rest) = bytes.split_first_chunk::<4>()?;
-        let (n, m) = (code([*a, *b]), code([*c, *d]));
+        let (field, m) = (code([*a, *b]), code([*c, *d]));
+        let n = field % MARK;
         if !(1..=VARIABLES).contains(&n) || m > CLAUSES {
             return None;
         }
         let (costs, rest) = rest.split_at_checked(4 * n)?;
-        let table = rest.get(..8 * m)?;
+        let (loss, rest) = match field & MARK {
+            0 => (&[0; 4], rest),
+            _ => rest.split_first_chunk()?,
+        };
+        let (table, bodies) = rest.split_at_checked(8 * m)?;
         Some(Parts {
             bytes,
             costs: costs.as_chunks().0,
+            loss: u32::from_le_bytes(*loss),
             pairs: table.as_chunks().0,
+            bodies_start: bytes.len() - bodies.len(),
         })
     }
 
-    /// Where the clauses begin.
-    fn bodies_start(&self) -> usize {
-        4 + 4 * self.costs.len() + 8 * self.pairs.len()
-    }
-
     fn check_pairs(&self) -> Result<(), Fault> {
-        let mut next = self.bodies_start();
+        let mut next = self.bodies_start;
         for (index, &stored) in self.pairs.iter().enumerate() {
             let (offset, length) = pair(stored);
             if offset != next {
@@ -68,7 +77,7 @@ impl<'a> Parts<'a> {
 
     /// The literals of all clauses, one clause after the other.
     pub fn all_literals(&self) -> Codes<'a> {
-        codes(&self.bytes[self.bodies_start()..])
+        codes(&self.bytes[self.bodies_start..])
     }
 
     /// What there is for each literal of all clauses, taken apart by clauses.
@@ -86,6 +95,7 @@ impl<'a> Parts<'a> {
 pub(crate) struct Sheet<'a> {
     bytes: &'a [u8],
     variable_count: usize,
+    loss: u64,
     /// What falsifying the literal with each code costs.
     prices: [u64; CODES],
     /// What each costs as an unsettled literal.
@@ -95,10 +105,13 @@ pub(crate) struct Sheet<'a> {
 
 impl<'a> Sheet<'a> {
     pub fn read(bytes: &'a [u8]) -> Result<Self, Fault> {
-        let Parts { costs, pairs, .. } = Parts::read(bytes)?;
+        let Parts {
+            costs, loss, pairs, ..
+        } = Parts::read(bytes)?;
         let mut sheet = Sheet {
             bytes,
             variable_count: costs.len(),
+            loss: loss.into(),
             prices: [0; CODES],
             free_costs: [0; CODES],
             pairs,
@@ -113,6 +126,11 @@ impl<'a> Sheet<'a> {
 
     pub fn variable_count(&self) -> usize {
         self.variable_count
+    }
+
+    /// What every assignment costs, whatever is true in it.
+    pub fn loss(&self) -> u64 {
+        self.loss
     }
 
     pub fn clause_count(&self) -> usize {

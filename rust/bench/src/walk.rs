@@ -73,7 +73,7 @@ impl<'a, R: Resolve> Walk<'a, R> {
         }
         let literals = claim.literals.iter();
         let prices = literals.map(|&stored| self.sheet.price(code(stored)));
-        if claim.bound != prices.sum() {
+        if claim.bound != self.sheet.loss() + prices.sum::<u64>() {
             return Err(refusal::COST_BOUND);
         }
         Ok(())

@@ -4,7 +4,7 @@
 use crate::judge::LONGEST;
 use crate::read::{fault, Codes, Fault};
 use crate::refusal;
-use crate::sheet::Parts;
+use crate::sheet::{Parts, MARK};
 use proved::Written;
 use std::cmp::Ordering;
 use std::mem;
@@ -77,10 +77,16 @@ impl Code for [u8; 2] {
     }
 }
 
-/// Writes the sheet's costs and these clauses, and gives the length; refusal 25 where they have no room.
+/// Writes the sheet's costs, its loss where that is not 0 and these clauses, and gives the length; refusal 25 where they have
+/// no room.
 fn put<C: Code>(parts: &Parts, clauses: &[&[C]], out: &mut [u8]) -> Result<usize, Fault> {
     let (n, m) = (parts.costs.len(), clauses.len());
-    let start = 4 + 4 * n + 8 * m;
+    let stored = parts.loss.to_le_bytes();
+    let (mark, loss) = match parts.loss {
+        0 => (0, &[][..]),
+        _ => (MARK, &stored[..]),
+    };
+    let start = 4 + 4 * n + loss.len() + 8 * m;
     let literals: usize = clauses.iter().map(|clause| clause.len()).sum();
     let length = start + 2 * literals;
     let Some(out) = out.get_mut(..length) else {
@@ -88,10 +94,12 @@ fn put<C: Code>(parts: &Parts, clauses: &[&[C]], out: &mut [u8]) -> Result<usize
     };
     let (front, bodies) = out.split_at_mut(start);
     let (head, rest) = front.split_at_mut(4);
-    head[..2].copy_from_slice(&(n as u16).to_le_bytes());
+    head[..2].copy_from_slice(&((n | mark) as u16).to_le_bytes());
     head[2..].copy_from_slice(&(m as u16).to_le_bytes());
-    let (costs, pairs) = rest.split_at_mut(4 * n);
+    let (costs, rest) = rest.split_at_mut(4 * n);
     costs.copy_from_slice(parts.costs.as_flattened());
+    let (place, pairs) = rest.split_at_mut(loss.len());
+    place.copy_from_slice(loss);
     put_clauses(clauses, start, pairs.as_chunks_mut().0, bodies);
     Ok(length)
 }

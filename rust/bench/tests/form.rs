@@ -11,6 +11,7 @@ const COST_BOUND: u64 = 13;
 /// What both ways say of one step of kind 2 with these codes: its bound is none, which 13 tells where the list is in form.
 fn told(codes: &[u16]) -> u64 {
     let problem = Problem {
+        loss: None,
         costs: vec![1; MOST_VARIABLES],
         clauses: vec![],
     };

@@ -5,6 +5,7 @@ use bench::{judge, Marks, Merge};
 use planner::format::{literal_bytes, record_from, sheet, Bodies};
 use planner::random::Random;
 use planner::{Literal, Problem, MOST_CLAUSES, MOST_VARIABLES, NONE};
+use samples::sheets::some_loss;
 
 const STEP_FORM: u64 = 8;
 const CITATION: u64 = 9;
@@ -68,8 +69,13 @@ fn bound(problem: &Problem, step: &Step) -> u64 {
             _ => remainder.min(0),
         };
     }
-    let divisor = i128::from(step.divisor);
-    (total.max(0) as u128).div_ceil(divisor as u128) as u64
+    with_loss(problem, total, step.divisor)
+}
+
+/// The total divided and rounded up, and then the standing loss.
+fn with_loss(problem: &Problem, total: i128, divisor: u16) -> u64 {
+    let rounded = (total.max(0) as u128).div_ceil(divisor.into());
+    problem.standing_loss() + rounded as u64
 }
 
 /// What both ways say of a record that claims "none": no step of kind 5 closes it, so that 19 tells that all steps passed.
@@ -104,7 +110,11 @@ fn problem(random: &mut Random) -> Problem {
     let count = random.between(1, 12);
     let clauses = (0..count).map(|_| literals(random, variables, share, positive));
     let clauses = clauses.collect();
-    Problem { costs, clauses }
+    Problem {
+        loss: some_loss(random),
+        costs,
+        clauses,
+    }
 }
 
 fn step(random: &mut Random, problem: &Problem) -> Step {
@@ -130,7 +140,7 @@ fn step(random: &mut Random, problem: &Problem) -> Step {
 #[test]
 fn the_bound_is_that_of_the_rule() {
     let mut random = Random::new(17);
-    let mut positive = 0;
+    let (mut positive, mut lossy) = (0, 0);
     for _ in 0..1_500 {
         let problem = problem(&mut random);
         let count = random.between(1, 8);
@@ -138,7 +148,9 @@ fn the_bound_is_that_of_the_rule() {
         let bounds: Vec<u64> = steps.iter().map(|step| bound(&problem, step)).collect();
         let both = steps.iter().zip(&bounds);
         let mut bodies: Vec<_> = both.map(|(step, bound)| step.body(*bound)).collect();
-        positive += bounds.iter().filter(|bound| **bound > 0).count();
+        let loss = problem.standing_loss();
+        positive += bounds.iter().filter(|bound| **bound > loss).count();
+        lossy += usize::from(loss > 0);
         assert_eq!(told(&problem, &bodies), (CLOSE, count as u64), "{steps:?}");
         let at = random.below(count);
         for wrong in [
@@ -151,7 +163,8 @@ fn the_bound_is_that_of_the_rule() {
             assert_eq!(told(&problem, &bodies), (LINEAR_BOUND, at as u64 + 1));
         }
     }
-    assert!(positive > 1_000, "only {positive} bounds above 0");
+    assert!(positive > 1_000, "only {positive} bounds above the loss");
+    assert!(lossy > 300, "only {lossy} sheets with a loss above 0");
 }
 
 /// 001's example 3.
@@ -163,6 +176,7 @@ fn example() -> (Problem, Step) {
             .collect()
     };
     let problem = Problem {
+        loss: None,
         costs: (1..=6).collect(),
         clauses: vec![list(&[2, 6, 10]), list(&[4, 8, 10, 13]), list(&[3, 5])],
     };
@@ -186,13 +200,32 @@ fn example_3_has_the_bound_11() {
 
 #[test]
 fn a_quotient_is_rounded_up() {
-    let (problem, mut step) = example();
+    let (mut problem, mut step) = example();
     step.cited = vec![(1, 9), (2, 5), (3, 1)];
     for divisor in 1..200 {
         step.divisor = divisor;
+        problem.loss = [None, Some(0), Some(3), Some(u32::MAX)][usize::from(divisor) % 4];
         let right = bound(&problem, &step);
         assert_eq!(told(&problem, &[step.body(right)]), (CLOSE, 1));
         assert_eq!(told(&problem, &[step.body(right + 1)]), (LINEAR_BOUND, 1));
+    }
+}
+
+/// Below the loss there is no bound: what is left of it is no number above 0.
+#[test]
+fn a_bound_has_the_loss() {
+    let (mut problem, mut step) = example();
+    // The clauses take more from the costs than they bring.
+    step.literals.clear();
+    step.cited = vec![(1, 900), (2, 900), (3, 900)];
+    for loss in [1, 5, u32::MAX] {
+        problem.loss = Some(loss);
+        let right = u64::from(loss);
+        assert_eq!(bound(&problem, &step), right);
+        assert_eq!(told(&problem, &[step.body(right)]), (CLOSE, 1));
+        for wrong in [0, right - 1, right + 1, 2 * right, NONE] {
+            assert_eq!(told(&problem, &[step.body(wrong)]), (LINEAR_BOUND, 1));
+        }
     }
 }
 
@@ -265,6 +298,7 @@ fn the_greatest_numbers_fit() {
         (5, u16::MAX, true),
     ] {
         let problem = Problem {
+            loss: Some(cost),
             costs: vec![cost; MOST_VARIABLES],
             clauses: vec![all(value).collect(); MOST_CLAUSES],
         };
@@ -297,6 +331,5 @@ fn bound_of_equal_clauses(problem: &Problem, step: &Step, value: bool) -> u64 {
         Some(literal) if literal.is_positive() => 0,
         Some(_) => remainder,
     };
-    let total = constant + variables * each;
-    (total.max(0) as u128).div_ceil(u128::from(step.divisor)) as u64
+    with_loss(problem, constant + variables * each, step.divisor)
 }

@@ -139,6 +139,7 @@ fn pairs<'a, A, B>(a: &'a [A], b: &'a [B]) -> impl Iterator<Item = (&'a A, &'a B
 #[test]
 fn every_statement_over_three_variables() {
     let problem = Problem {
+        loss: None,
         costs: vec![1, 2, 4],
         clauses: vec![],
     };
@@ -179,6 +180,7 @@ impl Draft {
         let most = [1, 9, u32::MAX as usize][random.below(3)];
         Draft {
             problem: Problem {
+                loss: None,
                 costs: (0..variables)
                     .map(|_| random.between(0, most) as u32)
                     .collect(),
@@ -329,6 +331,7 @@ fn list(codes: &[usize]) -> Vec<Literal> {
 #[test]
 fn an_earlier_step_lends_no_literal_and_no_pivot() {
     let problem = Problem {
+        loss: None,
         costs: vec![1, 2, 4],
         clauses: vec![],
     };
@@ -370,6 +373,7 @@ fn no_literal_may_be_missing_at_any_place() {
 /// without the pivot, and without each of the others.
 fn missing_anywhere(length: usize, pivot: usize, value: bool) {
     let problem = Problem {
+        loss: None,
         costs: vec![1; length],
         clauses: vec![],
     };

@@ -62,6 +62,14 @@ fn on_longer_records() {
 }
 
 #[test]
+fn on_longer_records_with_a_loss() {
+    for mix in [Mix::Mixed, Mix::Long, Mix::LongOf(Kind::Linear)] {
+        let sample = samples::long_with_loss(Some(u32::MAX), 8, 100_000, mix);
+        assert!(same(&sample.sheet, &sample.record, "long, with a loss").accepts());
+    }
+}
+
+#[test]
 fn on_longer_records_with_wider_resolutions() {
     for mix in [Mix::Mixed, Mix::Resolution, Mix::LongOf(Kind::Resolution)] {
         let sample = samples::long_widened(7, 100_000, mix);

@@ -5,7 +5,7 @@ use bench::{sets, write_decoded, write_stored};
 use planner::{format, Literal, Problem};
 use proved::Written;
 use samples::random::Random;
-use samples::sheets;
+use samples::sheets::{self, some_loss};
 use std::collections::BTreeMap;
 
 type Write = fn(&[u8], &mut [u8]) -> Written;
@@ -17,6 +17,9 @@ const WRITERS: [(&str, Write); 3] = [
 ];
 
 const SHORT_BUFFER: u64 = 25;
+
+/// The bytes of a loss.
+const LOSS: usize = 4;
 
 fn wanted(sheet: &[u8], out: &mut [u8]) -> Written {
     let written = reference::write_sheet(sheet, out);
@@ -88,7 +91,11 @@ fn small(random: &mut Random) -> Vec<u8> {
         variables.filter_map(literal).collect()
     };
     let clauses = (0..count).map(clause).collect();
-    format::sheet(&Problem { costs, clauses })
+    format::sheet(&Problem {
+        loss: some_loss(random),
+        costs,
+        clauses,
+    })
 }
 
 #[test]
@@ -97,15 +104,34 @@ fn on_small_sheets() {
     let mut shorter = 0;
     for _ in 0..2_000 {
         let sheet = small(random);
-        shorter += usize::from(same_on_buffers(&sheet) < sheet.len());
+        shorter += usize::from(same_on_buffers(&sheet) + LOSS < sheet.len());
     }
     assert!(shorter > 500, "{shorter} sheets with a clause twice");
+}
+
+/// A mark is written where its loss is not 0, and there alone.
+#[test]
+fn on_every_sort_of_loss() {
+    let mut problem = beginnings(5);
+    let unmarked = format::sheet(&problem).len();
+    for (loss, more) in [
+        (None, 0),
+        (Some(0), 0),
+        (Some(1), LOSS),
+        (Some(0x8000), LOSS),
+        (Some(u32::MAX), LOSS),
+    ] {
+        problem.loss = loss;
+        let length = same_on_buffers(&format::sheet(&problem));
+        assert_eq!(length, unmarked + more, "{loss:?}");
+    }
 }
 
 /// A clause of every length, each the beginning of the next: long lists are gone through in other ways than short ones.
 fn beginnings(longest: usize) -> Problem {
     let list: Vec<Literal> = (1..=longest).map(Literal::positive).collect();
     Problem {
+        loss: None,
         costs: vec![1; longest],
         clauses: (0..=longest).map(|end| list[..end].to_vec()).collect(),
     }

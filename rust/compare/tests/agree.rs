@@ -5,11 +5,14 @@ use compare::{hex, judge, setting, write_sheet};
 use planner::padding::Mix;
 use proved::show;
 use reference::Written;
-use samples::draft::{overwrite, read_u32, read_u64, Body, Draft, Files};
+use samples::damage;
+use samples::draft::{overwrite, read_u32, read_u64, Body, Draft, Files, Head};
 use samples::examples::{example, examples, Example};
 use samples::outcome::{Outcome, Tally};
+use samples::random::Random;
 use samples::weights::largest;
-use samples::{long_widened, long_with_weights, widening, Sample, WIDENED};
+use samples::{long_widened, long_with_loss, long_with_weights, widening, Sample, VALID, WIDENED};
+use std::collections::BTreeMap;
 
 /// How many samples are compared, unless COMPARE_COUNT says otherwise; from which seed, unless COMPARE_SEED does.
 const COUNT: usize = 200_000;
@@ -77,6 +80,7 @@ fn on_generated_and_damaged_records() {
     let count = setting("COMPARE_COUNT", COUNT);
     let seed = setting("COMPARE_SEED", SEED);
     let (mut met, mut wider) = (Tally::default(), Tally::default());
+    let mut losses: BTreeMap<&str, Tally> = BTreeMap::new();
     for (i, sample) in samples::stream(seed).take(count).enumerate() {
         let Sample {
             sheet,
@@ -85,6 +89,7 @@ fn on_generated_and_damaged_records() {
         } = &sample;
         let outcome = same(sheet, record, aimed);
         met.add(outcome);
+        losses.entry(loss_of(sheet)).or_default().add(outcome);
         if widening::passed(&sample, &judge(sheet, record)) > 0 {
             wider.add(outcome);
         }
@@ -102,6 +107,57 @@ fn on_generated_and_damaged_records() {
         let few = enough_wider(outcome, count);
         assert!(wider.of(outcome) >= few, "under {few} met {outcome}, wider");
     }
+    // One sheet serves for many samples, so that a short run may miss a sort of losses.
+    if count >= COUNT / 10 {
+        every_loss_is_met(&losses, count);
+    }
+}
+
+fn every_loss_is_met(losses: &BTreeMap<&str, Tally>, count: usize) {
+    for sort in ["no mark", "0", "small", "any", "largest"] {
+        println!("loss {sort}, {}", losses[sort]);
+        let (all, least) = (losses[sort].sum(), losses[sort].of(Outcome::Least));
+        assert!(all > count / 20, "{all} with the loss {sort}");
+        assert!(least > count / 200, "{least} least with the loss {sort}");
+    }
+}
+
+/// The sort of a sheet's loss.
+fn loss_of(sheet: &[u8]) -> &'static str {
+    match Head::read(sheet).map(|head| (head.is_marked, head.loss(sheet))) {
+        None => "no head",
+        Some((false, _)) => "no mark",
+        Some((true, None)) => "cut short",
+        Some((true, Some(0))) => "0",
+        Some((true, Some(1..=9))) => "small",
+        Some((true, Some(u32::MAX))) => "largest",
+        Some((true, Some(_))) => "any",
+    }
+}
+
+/// Every fault that has to do with a loss, in good records of marked sheets and of others: each meets its aim.
+#[test]
+fn on_losses_that_are_wrong() {
+    let mut random = Random::new(16);
+    let mut met: BTreeMap<&str, usize> = BTreeMap::new();
+    let good = samples::stream(16).filter(|sample| [VALID, WIDENED].contains(&sample.aimed));
+    for Sample { sheet, record, .. } in good.take(150) {
+        let draft = Draft::read(&Files { sheet, record }).expect("both files are good");
+        for fault in damage::LOSSES {
+            let Some(Files { sheet, record }) = damage::apply(&[*fault], &draft, &mut random)
+            else {
+                continue;
+            };
+            let outcome = same(&sheet, &record, fault.aimed);
+            let aim = fault.aim().expect("an aim");
+            assert!(aim.is_met_by(outcome), "{} met {outcome}", fault.aimed);
+            *met.entry(fault.aimed).or_default() += 1;
+        }
+    }
+    println!("{met:?}");
+    let few = |fault: &&damage::Damage| met.get(fault.aimed).is_none_or(|count| *count < 5);
+    let few: Vec<&str> = damage::LOSSES.iter().filter(few).map(|f| f.aimed).collect();
+    assert!(few.is_empty(), "few of {few:?}");
 }
 
 /// The same of those with a wider resolution among their good steps, of which there are none where no step is come to.
@@ -171,6 +227,10 @@ fn on_longer_records() {
         (6, 1_000_000, Mix::Long),
     ] {
         on_a_longer_record(samples::long(seed, size, mix));
+    }
+    for loss in [Some(0), Some(7), Some(u32::MAX)] {
+        on_a_longer_record(long_with_loss(loss, 3, 300_000, Mix::Mixed));
+        on_a_longer_record(long_with_loss(loss, 6, 300_000, Mix::Long));
     }
     on_a_longer_record(long_with_weights(8, 300_000));
     on_a_longer_record(long_widened(9, 300_000, Mix::Mixed));
@@ -257,16 +317,18 @@ fn with_other_bound(record: &[u8], step: u64, more: i64) -> Option<Vec<u8>> {
 }
 
 /// The open count of every byte that an assignment can have, as its first one and, cut to 1 to 8 variables, as its last. What
-/// the operation counts is proved; what the compiler makes of it is tried here. Nothing costs anything, so that every
+/// the operation counts is proved; what the compiler makes of it is tried here. No variable costs anything, so that every
 /// assignment is a least one.
 #[test]
 fn on_every_byte_of_an_assignment() {
     for left in 1..=8 {
         for byte in 0..=u8::MAX {
+            let loss = Some(u32::from(byte)).filter(|byte| byte % 2 == 1);
             let mut draft = Draft {
+                loss,
                 costs: vec![0; 8 + left],
                 clauses: Vec::new(),
-                claim: 0,
+                claim: loss.map_or(0, u64::from),
                 assignment: vec![byte, !byte & (u8::MAX >> (8 - left))],
                 steps: Vec::new(),
             };

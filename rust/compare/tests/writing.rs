@@ -90,6 +90,7 @@ fn assert_one_way(sheet: &[u8], bytes: &[u8], what: &str) {
     // A list of numbers is below those that begin with it, and else the first number that differs decides.
     let rises = after.clauses.windows(2).all(|pair| pair[0] < pair[1]);
     assert!(rises && after.sheet() == bytes, "{}", told());
+    assert_ne!(after.loss, Some(0), "{}", told());
     assert!(bytes.len() <= sheet.len(), "{}", told());
     let (_, again) = same(bytes, bytes.len(), what);
     assert!(again == bytes, "{}", told());
@@ -158,6 +159,48 @@ fn on_a_family(family: &Family, met: &mut Met) -> usize {
     same.len() + others.len() + damaged.len()
 }
 
+/// The losses that sheets are told apart by, and that of a sheet without a mark.
+const LOSSES: [Option<u32>; 9] = [
+    None,
+    Some(0),
+    Some(1),
+    Some(2),
+    Some(255),
+    Some(256),
+    Some(0x8000),
+    Some(1 << 31),
+    Some(u32::MAX),
+];
+
+/// Sheets that have all but mark and loss in common are written alike where the losses are the same, a mark of loss 0 and none
+/// included, and there alone.
+#[test]
+fn on_sheets_that_differ_in_mark_and_loss_alone() {
+    let (mut met, mut pairs) = (Met::default(), [0, 0]);
+    let listed = families(SEED + 1).map(|family| Listing::read(&family.same[2].sheet));
+    for listing in listed.take(150) {
+        let listing = listing.expect("a sheet in form");
+        let written = LOSSES.map(|loss| {
+            let sheet = Listing {
+                loss,
+                ..listing.clone()
+            }
+            .sheet();
+            let bytes = well_written(&sheet, &format!("loss {loss:?}"), &mut met);
+            assert_eq!(Listing::read(&bytes).unwrap().loss, loss.filter(|l| *l > 0));
+            (loss.unwrap_or(0), bytes)
+        });
+        for (place, (loss, bytes)) in written.iter().enumerate() {
+            for (other, others) in &written[..place] {
+                assert_eq!(loss == other, bytes == others, "{loss} and {other}");
+                pairs[usize::from(loss == other)] += 1;
+            }
+        }
+    }
+    println!("{pairs:?} pairs of different and of the same loss");
+    assert_eq!(pairs, [150 * 35, 150]);
+}
+
 /// All lists of up to five of these clauses: every order, and repeats in every place. The clauses stand sorted here; by their
 /// bytes the last would come before all but the first.
 #[test]
@@ -169,6 +212,7 @@ fn on_every_short_list() {
     for length in 0..=5 {
         for list in &lists {
             let listing = Listing {
+                loss: None,
                 costs: costs.clone(),
                 clauses: list.clone(),
             };
@@ -236,7 +280,13 @@ fn on_the_largest_sheets() {
     for (clauses, wanted) in [(shuffled, every), (equal, vec![turned(5)])] {
         let [sheet, wanted] = [clauses, wanted].map(|clauses| {
             let costs = costs.clone();
-            Listing { costs, clauses }.sheet()
+            let loss = Some(u32::MAX);
+            Listing {
+                loss,
+                costs,
+                clauses,
+            }
+            .sheet()
         });
         let (answer, bytes) = same(&sheet, sheet.len(), "a largest sheet");
         assert_eq!(answer.length, wanted.len() as u64);
@@ -250,7 +300,7 @@ fn on_the_largest_sheets() {
 #[test]
 fn on_sheets_cut_or_with_a_bit_changed() {
     let mut met = Met::default();
-    for name in ["A1", "D", "W1"] {
+    for name in ["A1", "D", "W1", "L1"] {
         let sheet = example(name).sheet;
         for end in 0..sheet.len() {
             written(&sheet[..end], "a cut sheet", &mut met);

@@ -1,15 +1,15 @@
 //! An answer with the place that it names: the proved checker's line, a sentence, and what stands there.
 
-use crate::places::{cited_lines, clause_line, cost, pair_line, step_line};
+use crate::places::{cited_lines, clause_line, cost, pair_line, step_line, with_loss};
 use crate::record::{Record, ASSIGNMENT};
 use crate::refusals::sentence;
-use crate::sheet::Sheet;
+use crate::sheet::{is_marked, Sheet};
 use crate::{dependence, resolution, text, weights};
 use proved::{Answer, Verdict, NONE};
 
 /// The lines for the answer that the proved checker gave to these files.
 pub fn explain(sheet: &[u8], record: &[u8], answer: &Answer) -> Vec<String> {
-    let mut lines = vec![answer.line(), sentence(answer)];
+    let mut lines = vec![answer.line(), sentence(answer, is_marked(sheet))];
     lines.extend(shown(sheet, record, answer));
     lines
 }
@@ -74,8 +74,12 @@ fn in_sheet(sheet: &Sheet, size: usize, answer: &Answer) -> Vec<String> {
     if answer.number == 3 && place > 0 {
         return vec![pair_line(&sheet.clauses, "clause", "sheet", place, size)];
     }
+    let (mark, parts) = match sheet.marked {
+        true => ("marked, ", "costs, loss and pairs"),
+        false => ("", "costs and pairs"),
+    };
     vec![format!(
-        "sheet (byte 0): {} variables, {} clauses; costs and pairs end at byte {end}, the file has {size} bytes",
+        "sheet (byte 0): {mark}{} variables, {} clauses; {parts} end at byte {end}, the file has {size} bytes",
         sheet.variables,
         sheet.clauses.count()
     )]
@@ -144,18 +148,20 @@ fn value_line(sheet: &Sheet, record: &Record, clause: usize) -> String {
     )
 }
 
-/// The true variables and their costs.
+/// The true variables and their costs, with the loss of a marked sheet.
 fn true_line(sheet: &Sheet, record: &Record) -> String {
     let variables = record.true_variables(sheet.variables);
     let costs: Vec<_> = variables.iter().map(|v| cost(sheet, *v)).collect();
-    if costs.is_empty() {
-        return format!("assignment (record, byte {ASSIGNMENT}): nothing is true");
-    }
-    let sum: u64 = variables
-        .iter()
-        .filter_map(|variable| sheet.cost(*variable))
-        .map(u64::from)
-        .sum();
-    let costs = costs.join(", ");
-    format!("assignment (record, byte {ASSIGNMENT}): true are: {costs}; together {sum}")
+    let paid = variables.iter().filter_map(|v| sheet.cost(*v));
+    let sum = sheet.standing_loss() + paid.map(u64::from).sum::<u64>();
+    let line = match costs.as_slice() {
+        [] => "nothing is true".to_string(),
+        _ => format!("true are: {}", costs.join(", ")),
+    };
+    let line = with_loss(sheet, line);
+    let together = match (costs.is_empty(), sheet.marked) {
+        (true, false) => String::new(),
+        _ => format!("; together {sum}"),
+    };
+    format!("assignment (record, byte {ASSIGNMENT}): {line}{together}")
 }

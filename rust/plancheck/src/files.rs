@@ -4,7 +4,7 @@ use crate::explain;
 use crate::failure::Failure;
 use crate::record::Record;
 use crate::refusals::sentence;
-use crate::sheet::Sheet;
+use crate::sheet::{is_marked, Sheet};
 use proved::Answer;
 use std::fs::{self, File};
 use std::io::{self, ErrorKind, IsTerminal, Read, Write};
@@ -119,8 +119,13 @@ pub fn valid_sheet<'a>(path: &Path, bytes: &'a [u8]) -> Result<Sheet<'a>, Failur
     let answer = proved::judge(bytes, &[]);
     match Sheet::open(bytes).filter(|_| answer.number == 5) {
         Some(sheet) => Ok(sheet),
-        None => Err(refused(path, sheet_byte(bytes, &answer), &answer)),
+        None => Err(refused_sheet(path, bytes, &answer)),
     }
+}
+
+fn refused_sheet(path: &Path, bytes: &[u8], answer: &Answer) -> Failure {
+    let byte = sheet_byte(bytes, answer);
+    refused(path, byte, answer, is_marked(bytes))
 }
 
 /// The byte of a sheet that its refusal is about.
@@ -154,7 +159,7 @@ fn unwritten(path: &Path, sheet: &[u8], written: &proved::Written) -> Failure {
         step_count: 0,
         gap: 0,
     };
-    let refused = refused(path, sheet_byte(sheet, &answer), &answer);
+    let refused = refused_sheet(path, sheet, &answer);
     let shown = explain::sheet_alone(sheet, &answer).join("\n");
     Failure::Content(format!("{}\n{shown}", refused.message()))
 }
@@ -176,13 +181,13 @@ pub fn laid_out<'a>(path: &Path, sheet: &[u8], bytes: &'a [u8]) -> Result<Record
             let place = answer.place as usize;
             let byte = record.filter(|_| answer.number == 7);
             let byte = byte.map_or(0, |record| record.steps.pair_place(place));
-            Err(refused(path, byte, &answer))
+            Err(refused(path, byte, &answer, is_marked(sheet)))
         }
     }
 }
 
-fn refused(path: &Path, byte: usize, answer: &Answer) -> Failure {
-    let (line, sentence) = (answer.line(), sentence(answer));
+fn refused(path: &Path, byte: usize, answer: &Answer, marked: bool) -> Failure {
+    let (line, sentence) = (answer.line(), sentence(answer, marked));
     Failure::Content(format!(
         "{}: byte {byte}: {line}\n{sentence}",
         path.display()

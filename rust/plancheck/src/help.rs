@@ -48,14 +48,17 @@ For a weighted step a table shows how its bound comes about. A variable's remain
 cost; each cited clause takes its weight away where it has the variable positive, and adds it where it has it negative. A variable adds its remainder where it
 is settled true, nothing where it is settled false, and where it is unsettled its remainder if that is below 0. A cited clause adds
 its weight times (1 - its negative literals). If the divisor or a weight is 0, or the bound is another, mends come last.
+
+Of a marked sheet the loss stands in every sum: in the assignment's cost, and in the bounds of cost steps, independent sets and
+weighted steps, there after the rounding.
 ";
 
 pub const STATS: &str = "\
 plancheck stats SHEET RECORD
 
 Prints the proved checker's line, then counts: steps by kind, literals, clauses with weights, bytes, the depth of the last
-step's derivation, and how many earlier steps the last one rests on. Exit code 0 whatever the line says, 1 where the layout
-cannot be read.
+step's derivation, and how many earlier steps the last one rests on. The line of a marked sheet has its loss. Exit code 0
+whatever the first line says, 1 where the layout cannot be read.
 ";
 
 pub const TEXT: &str = "\
@@ -66,8 +69,8 @@ Writes a valid sheet, or a record whose head and pairs are right, as lines to re
 
   sheet                          record
   cost 1 3                       variables 2
-  clause 1 -2                    claim 3                             or: claim none
-                                 assign 1                            the variables that are true
+  loss 4                         claim 3                             or: claim none
+  clause 1 -2                    assign 1                            the variables that are true
                                  copy 1 : 1 2 bound none             clause 1
                                  cost : -1 bound 3
                                  independent 1 2 : -3 bound 5        clauses 1 and 2
@@ -76,23 +79,25 @@ Writes a valid sheet, or a record whose head and pairs are right, as lines to re
                                  raw 09 00                           bytes that are no step
 
 A literal is a variable's number, negative for a negative literal. # begins a comment. 'assign raw' and bytes stand for an
-assignment with bits that belong to no variable.
+assignment with bits that belong to no variable. A line 'loss' stands in the text of a marked sheet and in no other, once,
+behind the costs: what every assignment costs, whatever is true in it. 'loss 0' is a mark too.
 ";
 
 pub const PACK: &str = "\
 plancheck pack TEXT -o FILE
 
 Turns the text of a sheet or of a record into the file. See 'plancheck text --help' for the lines. Faults name the line.
-What the file's fields can hold is written, right or wrong; 'plancheck judge' says which.
+What the file's fields can hold is written, right or wrong; 'plancheck judge' says which. The number of variables has 15 bits,
+so that 32767 costs are the most: the highest bit of its field is the mark.
 ";
 
 pub const WRITE: &str = "\
 plancheck write SHEET -o OUT
 
-Writes the canonical sheet of a valid one, as the proved writer has it: the same variables and costs, the clauses sorted by the
-codes of their literals, a clause before those that begin with it, each clause once. The literal v has the code 2 v, and -v has
-2 v + 1. Sheets with the same variables, costs and set of clauses come out byte for byte alike, and no others do. A sheet that
-is canonical already stays as it is.
+Writes the canonical sheet of a valid one, as the proved writer has it: the same variables, costs and loss, the clauses sorted
+by the codes of their literals, a clause before those that begin with it, each clause once. The literal v has the code 2 v, and
+-v has 2 v + 1. A mark whose loss is 0 is left out, and one with a loss stays. Sheets with the same variables, costs, loss and
+set of clauses come out byte for byte alike, and no others do. A sheet that is canonical already stays as it is.
 
 Clauses get other numbers, and a record cites them by number: it keeps to the sheet that it was made for. OUT may be SHEET
 itself, but a record that was made for the old sheet loses it then. So keep that sheet beside its record, or plan the canonical
@@ -107,7 +112,7 @@ plancheck plan [--tree | --unweighted] [--steps N] SHEET -o RECORD
 
 Finds a least-cost assignment by branch and bound, writes the record, and prints what the proved checker says to it. This can
 take long on large sheets. --unweighted does without weighted steps. --tree tries every assignment instead, for 16 variables at
-most. Exit codes as with judge.
+most. Costs include the loss of a marked sheet. Exit codes as with judge.
 
 --steps N writes N steps at most. The search then stops after 10,000 conflicts, and one more for each step. Where it has come to
 its end by then, and its proof has N steps at most, the record is the one that it writes without --steps. Else it is the best
@@ -119,6 +124,7 @@ pub const IMPORT: &str = "\
 plancheck import FILE.wcnf -o SHEET
 
 Reads 'p wcnf VARIABLES CLAUSES TOP' with hard clauses of weight TOP, or the newer form with 'h' in front of hard clauses.
-A soft clause has to be one negative literal: its weight is the variable's cost. What a sheet cannot hold is refused, with the
-line and the reason.
+A soft clause has to be one negative literal: its weight is the variable's cost. Or it has no literal: nothing satisfies it,
+and its weight is lost in any case. What is lost adds up to the loss, and the sheet is marked where that is above 0. What a
+sheet cannot hold is refused, with the line and the reason.
 ";

@@ -3,6 +3,9 @@
 use crate::words::Fault;
 use planner::{Literal, Problem, MOST_CLAUSES, MOST_VARIABLES};
 
+/// What is asked of a soft clause.
+const SOFT: &str = "a soft clause has to have one negative literal, or no literal";
+
 /// The `p` line of the older form.
 #[derive(Clone, Copy, Debug)]
 struct Head {
@@ -16,6 +19,8 @@ struct Import {
     head: Option<Head>,
     /// Clauses read so far, soft ones included.
     read: usize,
+    /// What the soft clauses without literals come to.
+    loss: u32,
     costs: Vec<u32>,
     clauses: Vec<Vec<Literal>>,
 }
@@ -94,23 +99,29 @@ impl Import {
         }
     }
 
-    /// Only the cost of making one variable true fits a sheet; several costs of one variable add up.
+    /// Only the cost of making one variable true fits a sheet, and what is lost in any case; several of either add up.
     fn soft(&mut self, weight: u64, literals: &[Literal]) -> Result<(), String> {
-        let [literal] = literals else {
-            let count = literals.len();
-            return Err(format!(
-                "a soft clause has to have one negative literal; this one has {count} literals"
-            ));
+        let (sum, what) = match literals {
+            [] => (
+                &mut self.loss,
+                "soft clauses without literals come to".to_string(),
+            ),
+            [literal] if literal.is_positive() => {
+                return Err(format!("{SOFT}; this one is positive: a sheet cannot make a false variable cost something"));
+            }
+            [literal] => {
+                let variable = literal.variable();
+                let cost = &mut self.costs[literal.index()];
+                (cost, format!("variable {variable} costs"))
+            }
+            _ => {
+                let count = literals.len();
+                return Err(format!("{SOFT}; this one has {count} literals"));
+            }
         };
-        if literal.is_positive() {
-            return Err("a soft clause has to have one negative literal; this one is positive: a sheet cannot make a false variable cost something".into());
-        }
-        let cost = &mut self.costs[literal.index()];
-        let sum = u64::from(*cost).checked_add(weight);
-        *cost = sum.and_then(|sum| u32::try_from(sum).ok()).ok_or_else(|| {
-            let (variable, most) = (literal.variable(), u32::MAX);
-            format!("variable {variable} costs more than {most}")
-        })?;
+        let more = u64::from(*sum).checked_add(weight);
+        let more = more.and_then(|more| u32::try_from(more).ok());
+        *sum = more.ok_or_else(|| format!("{what} more than {}", u32::MAX))?;
         Ok(())
     }
 
@@ -146,6 +157,8 @@ impl Import {
             return Err("the file has no variables; a sheet has one at least".into());
         }
         Ok(Problem {
+            // Without anything lost the sheet is one that an older checker reads too.
+            loss: (self.loss > 0).then_some(self.loss),
             costs: self.costs,
             clauses: self.clauses,
         })

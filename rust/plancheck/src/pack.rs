@@ -3,7 +3,11 @@
 mod record;
 
 use crate::words::{Fault, Words};
-use planner::{format, Literal, Problem};
+use planner::format::{self, MARK};
+use planner::{Literal, Problem};
+
+/// The greatest n that a field without a mark can tell: one more would be read as the mark.
+const MOST_COUNTED: usize = MARK as usize - 1;
 
 /// What a text turned out to be.
 #[derive(Clone, Copy, Debug, PartialEq, Eq)]
@@ -78,34 +82,57 @@ pub fn pack(text: &str) -> Result<(Packed, Vec<u8>), Fault> {
 
 fn sheet(lines: &mut Lines) -> Result<Vec<u8>, Fault> {
     let mut problem = Problem {
+        loss: None,
         costs: Vec::new(),
         clauses: Vec::new(),
     };
     while let Some(mut words) = lines.next() {
         match words.take() {
-            Some("cost") if problem.clauses.is_empty() => {
-                problem.costs.push(cost(&mut words, problem.costs.len())?)
-            }
-            Some("cost") => return Err(words.fault("costs stand before the clauses")),
+            Some("cost") => problem.costs.push(cost(&mut words, &problem)?),
+            Some("loss") => problem.loss = Some(loss(&mut words, &problem)?),
             Some("clause") => problem.clauses.push(clause(&mut words)?),
-            _ => return Err(words.fault("a sheet has lines 'cost' and 'clause'")),
+            _ => return Err(words.fault("a sheet has lines 'cost', 'loss' and 'clause'")),
         }
-        if problem.costs.len().max(problem.clauses.len()) > usize::from(u16::MAX) {
-            return Err(words.fault(format!("a sheet counts to {} at most", u16::MAX)));
+        if problem.clauses.len() > usize::from(u16::MAX) {
+            return Err(words.fault(format!("a sheet counts to {} clauses at most", u16::MAX)));
         }
     }
     Ok(format::sheet(&problem))
 }
 
 /// `cost VARIABLE COST`, the variables in order without a gap.
-fn cost(words: &mut Words, before: usize) -> Result<u32, Fault> {
+fn cost(words: &mut Words, before: &Problem) -> Result<u32, Fault> {
+    if !before.clauses.is_empty() {
+        return Err(words.fault("costs stand before the clauses"));
+    }
+    if before.loss.is_some() {
+        return Err(words.fault("costs stand before the loss"));
+    }
+    let due = before.variables() + 1;
+    if due > MOST_COUNTED {
+        let most = format!("a sheet counts to {MOST_COUNTED} variables at most: n has 15 bits, and the highest bit of its field is the mark");
+        return Err(words.fault(most));
+    }
     let variable = words.number("the variable", u64::from(u16::MAX))?;
-    if variable != before as u64 + 1 {
-        return Err(words.fault(format!("the cost of variable {} is due", before + 1)));
+    if variable != due as u64 {
+        return Err(words.fault(format!("the cost of variable {due} is due")));
     }
     let cost = words.number("the cost", u64::from(u32::MAX))?;
     words.end()?;
     Ok(cost as u32)
+}
+
+/// `loss LOSS`, which makes it a marked sheet. It stands where the file has it.
+fn loss(words: &mut Words, before: &Problem) -> Result<u32, Fault> {
+    if before.loss.is_some() {
+        return Err(words.fault("a sheet has one loss, and this is the second"));
+    }
+    if !before.clauses.is_empty() {
+        return Err(words.fault("the loss stands before the clauses"));
+    }
+    let loss = words.number("the loss", u64::from(u32::MAX))?;
+    words.end()?;
+    Ok(loss as u32)
 }
 
 fn clause(words: &mut Words) -> Result<Vec<Literal>, Fault> {

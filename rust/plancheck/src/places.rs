@@ -67,7 +67,7 @@ pub fn cited_lines(sheet: &Sheet, record: &Record, number: usize) -> Vec<String>
     };
     match &step.reason {
         Reason::Copy { clause } => vec![clause_line(sheet, *clause as usize)],
-        Reason::Cost => cost_lines(sheet, &step),
+        Reason::Cost => paid_lines(sheet, &step),
         Reason::Independent { clauses } => added_lines(sheet, &step, clauses),
         Reason::Resolution {
             positive, negative, ..
@@ -80,7 +80,22 @@ pub fn cited_lines(sheet: &Sheet, record: &Record, number: usize) -> Vec<String>
     }
 }
 
-/// What an independent set adds up: the costs made true, and these of the clauses that it cites.
+/// What a cost step adds up. With a loss in it the sum is told: a bound that is the costs alone looks right beside them.
+fn paid_lines(sheet: &Sheet, step: &Step) -> Vec<String> {
+    let lines = cost_lines(sheet, step);
+    if !sheet.marked {
+        return lines;
+    }
+    let negative = step.literals.iter().filter(|l| !l.is_positive());
+    let paid = negative.filter_map(|l| sheet.cost(l.variable()));
+    let sum = sheet.standing_loss() + paid.map(u64::from).sum::<u64>();
+    let lines = lines.into_iter();
+    lines
+        .map(|line| format!("{line}; together {sum}"))
+        .collect()
+}
+
+/// What an independent set adds up: the costs made true, the loss, and the costs of the clauses that it cites.
 pub fn added_lines(sheet: &Sheet, step: &Step, clauses: &[u32]) -> Vec<String> {
     let mut lines = cost_lines(sheet, step);
     for clause in clauses.iter().take(MOST) {
@@ -93,14 +108,24 @@ pub fn added_lines(sheet: &Sheet, step: &Step, clauses: &[u32]) -> Vec<String> {
     lines
 }
 
-/// What the variables cost that making the step's literals false makes true.
+/// What the variables cost that making the step's literals false makes true, and the loss.
 fn cost_lines(sheet: &Sheet, step: &Step) -> Vec<String> {
     let negative = step.literals.iter().filter(|l| !l.is_positive());
     let costs: Vec<_> = negative.map(|l| cost(sheet, l.variable())).collect();
-    if costs.is_empty() {
-        return Vec::new();
+    let line = match costs.as_slice() {
+        [] if !sheet.marked => return Vec::new(),
+        [] => "nothing is made true".to_string(),
+        _ => format!("costs made true: {}", costs.join(", ")),
+    };
+    vec![with_loss(sheet, line)]
+}
+
+/// A list of costs, and behind it the loss where the sheet has the mark.
+pub fn with_loss(sheet: &Sheet, costs: String) -> String {
+    match sheet.loss() {
+        Some(loss) => format!("{costs}; loss {loss}"),
+        None => costs,
     }
-    vec![format!("costs made true: {}", costs.join(", "))]
 }
 
 /// Nothing for a clause without literals.

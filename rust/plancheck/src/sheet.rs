@@ -1,12 +1,19 @@
 //! A sheet taken apart for showing and planning.
 
 use crate::bodies::{u16_at, u32_at, Bodies};
+use planner::format::MARK;
 use planner::{Literal, Problem};
+
+/// Where the costs begin, and how many bytes one of them takes, as the loss does.
+const COSTS: usize = 4;
+const COST: usize = 4;
 
 /// A sheet as far as its head can be read; the rest is looked up when asked for.
 #[derive(Clone, Copy, Debug)]
 pub struct Sheet<'a> {
     bytes: &'a [u8],
+    /// Whether the mark is set, so that a loss follows the costs.
+    pub marked: bool,
     pub variables: usize,
     pub clauses: Bodies<'a>,
 }
@@ -14,12 +21,16 @@ pub struct Sheet<'a> {
 impl<'a> Sheet<'a> {
     /// Nothing where the file is too short for the two counts.
     pub fn open(bytes: &'a [u8]) -> Option<Self> {
-        let variables = usize::from(u16_at(bytes, 0)?);
+        let field = u16_at(bytes, 0)?;
         let count = usize::from(u16_at(bytes, 2)?);
+        let marked = field & MARK != 0;
+        let variables = usize::from(field & !MARK);
+        let numbers = variables + usize::from(marked);
         Some(Sheet {
             bytes,
+            marked,
             variables,
-            clauses: Bodies::new(bytes, 4 + 4 * variables, count),
+            clauses: Bodies::new(bytes, COSTS + COST * numbers, count),
         })
     }
 
@@ -27,7 +38,18 @@ impl<'a> Sheet<'a> {
         if variable == 0 || variable > self.variables {
             return None;
         }
-        u32_at(self.bytes, 4 * variable)
+        u32_at(self.bytes, COSTS + COST * (variable - 1))
+    }
+
+    /// The loss of a marked sheet, where the file is long enough for it.
+    pub fn loss(&self) -> Option<u32> {
+        let place = COSTS + COST * self.variables;
+        u32_at(self.bytes, place).filter(|_| self.marked)
+    }
+
+    /// What every assignment costs before any variable does.
+    pub fn standing_loss(&self) -> u64 {
+        self.loss().map_or(0, u64::from)
     }
 
     /// A clause's literals, where its body can be read as such.
@@ -40,10 +62,16 @@ impl<'a> Sheet<'a> {
         let costs = (1..=self.variables).map(|variable| self.cost(variable));
         let clauses = (1..=self.clauses.count()).map(|number| self.clause(number));
         Some(Problem {
+            loss: self.loss(),
             costs: costs.collect::<Option<_>>()?,
             clauses: clauses.collect::<Option<_>>()?,
         })
     }
+}
+
+/// Whether a file has the mark, as far as a sheet can be made out in it.
+pub fn is_marked(bytes: &[u8]) -> bool {
+    Sheet::open(bytes).is_some_and(|sheet| sheet.marked)
 }
 
 /// Codes as literals, in the order that they are stored. A code of variable 0 is no literal.

@@ -14,6 +14,9 @@ pub fn write_sheet(sheet: &Sheet, out: &mut dyn Write) -> io::Result<()> {
         let cost = sheet.cost(variable).unwrap_or(0);
         writeln!(out, "cost {variable} {cost}")?;
     }
+    if let Some(loss) = sheet.loss() {
+        writeln!(out, "loss {loss}")?;
+    }
     for number in 1..=sheet.clauses.count() {
         let literals = sheet.clause(number).unwrap_or_default();
         writeln!(out, "clause{}  # clause {number}", listed(&literals))?;

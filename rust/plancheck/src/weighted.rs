@@ -84,6 +84,8 @@ pub struct Sum {
     entries: Vec<Entry>,
     /// How many variables have no row; they add nothing.
     left_out: usize,
+    /// What a marked sheet has on top of the quotient.
+    loss: Option<u32>,
 }
 
 impl Sum {
@@ -120,6 +122,7 @@ impl Sum {
             rows,
             entries,
             left_out,
+            loss: sheet.loss(),
         })
     }
 
@@ -127,13 +130,14 @@ impl Sum {
         added(&self.rows, Row::adds) + added(&self.entries, Entry::adds)
     }
 
-    /// The bound that the step has to have.
+    /// The bound that the step has to have. The loss comes last, so that it is neither divided nor rounded.
     pub fn bound(&self) -> i128 {
         let divisor = i128::from(self.divisor);
-        (self.total().max(0) + divisor - 1) / divisor
+        let rounded = (self.total().max(0) + divisor - 1) / divisor;
+        rounded + self.loss.map_or(0, i128::from)
     }
 
-    /// The table, the cited clauses, the total and the bound.
+    /// The table, the cited clauses, the total and the bound, with the loss where there is one.
     pub fn lines(&self, sheet: &Sheet) -> Vec<String> {
         let mut lines = self.table();
         let entries = self.entries.iter().take(MOST);
@@ -144,15 +148,23 @@ impl Sum {
         lines.push(format!(
             "variables add {rows}, clauses add {clauses}: total {total}"
         ));
-        lines.push(match total {
-            ..=0 => "bound 0, since the total is not positive".to_string(),
-            _ => format!(
-                "bound {}: {total} / {}, rounded up",
-                self.bound(),
-                self.divisor
-            ),
-        });
+        lines.push(self.bound_line(total));
         lines
+    }
+
+    /// How the bound comes from the total.
+    fn bound_line(&self, total: i128) -> String {
+        let (bound, divisor) = (self.bound(), self.divisor);
+        match (total, self.loss) {
+            (..=0, None) => "bound 0, since the total is not positive".to_string(),
+            (..=0, Some(loss)) => {
+                format!("bound {bound}: 0, since the total is not positive, plus the loss {loss}")
+            }
+            (_, None) => format!("bound {bound}: {total} / {divisor}, rounded up"),
+            (_, Some(loss)) => {
+                format!("bound {bound}: {total} / {divisor}, rounded up, plus the loss {loss}")
+            }
+        }
     }
 
     fn table(&self) -> Vec<String> {

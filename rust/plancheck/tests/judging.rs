@@ -4,6 +4,7 @@ mod common;
 
 use common::{code, complained, printed, Folder};
 use plancheck::explain::explain;
+use plancheck::pack::pack;
 use plancheck::refusals::{place_of, sentence, Place};
 use samples::examples::{example, examples, Example};
 use samples::{stream, NUMBERS};
@@ -50,21 +51,20 @@ fn explanations_name_the_place() {
     }
 }
 
-fn sentence_at_7(number: usize) -> String {
+fn sentence_at_7(number: usize, marked: bool) -> String {
     let mut answer = proved::judge(&[], &[]);
     answer.number = number as u64;
     answer.place = 7;
-    sentence(&answer)
+    sentence(&answer, marked)
 }
 
 /// The writer's own refusal: no record meets it.
 const SHORT_BUFFER: usize = 25;
 
-#[test]
-fn each_refusal_has_a_sentence_of_its_own() {
+fn sentences_differ(marked: bool) {
     let numbers = (1..NUMBERS).chain([SHORT_BUFFER]);
     let sentences = numbers.map(|number| {
-        let sentence = sentence_at_7(number);
+        let sentence = sentence_at_7(number, marked);
         assert_eq!(
             place_of(number as u64) != Place::File,
             sentence.contains(" 7 ") || sentence.contains(" 7:")
@@ -74,8 +74,26 @@ fn each_refusal_has_a_sentence_of_its_own() {
     });
     let sentences: BTreeSet<String> = sentences.collect();
     assert_eq!(sentences.len(), SHORT_BUFFER);
-    assert!(sentence_at_7(SHORT_BUFFER + 1).contains("not the number of a refusal"));
+    assert!(sentence_at_7(SHORT_BUFFER + 1, marked).contains("not the number of a refusal"));
     assert_eq!(place_of(SHORT_BUFFER as u64 + 1), Place::File);
+}
+
+#[test]
+fn each_refusal_has_a_sentence_of_its_own() {
+    sentences_differ(false);
+    sentences_differ(true);
+}
+
+/// Of a marked sheet the head and three bounds are told otherwise, and of a sheet without a mark nothing speaks of a loss.
+#[test]
+fn the_loss_is_told_where_it_counts() {
+    for number in 1..=SHORT_BUFFER {
+        let [plain, marked] = [false, true].map(|marked| sentence_at_7(number, marked));
+        assert!(!plain.contains(" loss"), "{plain}");
+        let counts = [2, 13, 15, 24].contains(&number);
+        assert_eq!(marked.contains(" loss "), counts, "{marked}");
+        assert_eq!(plain != marked, counts, "{marked}");
+    }
 }
 
 #[test]
@@ -89,6 +107,32 @@ fn stats_count_the_worked_pair() {
         steps: 5 (copy 2, cost 1, independent 0, resolve 2, weighted 0)\nliterals in steps: 6\ndepth of the last step: 3\n\
         steps that the last one rests on: 4\n";
     assert_eq!((printed(&counted).as_str(), code(&counted)), (wanted, 0));
+}
+
+#[test]
+fn stats_tell_the_loss_of_a_marked_sheet() {
+    let folder = Folder::new("stats-loss");
+    let Example { record, .. } = example("L1");
+    folder.write("record", &record);
+    let heads = [
+        ("", "refused 11 at 0", "36 bytes"),
+        ("loss 0\n", "refused 11 at 0", "loss 0, 40 bytes"),
+        ("loss 4\n", "least 7 open 1 steps 5", "loss 4, 40 bytes"),
+        (
+            "loss 4294967295\n",
+            "refused 11 at 0",
+            "loss 4294967295, 40 bytes",
+        ),
+    ];
+    for (loss, line, rest) in heads {
+        let text = format!("sheet\ncost 1 3\ncost 2 5\n{loss}clause 1 2\nclause 1 -2\n");
+        folder.write("sheet", pack(&text).unwrap().1);
+        let counted = folder.run(&["stats", "sheet", "record"]);
+        let start = format!("{line}\nsheet: 2 variables, 2 clauses, {rest}\nrecord: 153 bytes\n");
+        let told = printed(&counted);
+        assert!(told.starts_with(&start), "{told}");
+        assert_eq!(code(&counted), 0);
+    }
 }
 
 #[test]

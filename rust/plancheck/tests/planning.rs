@@ -6,6 +6,7 @@ use common::{code, complained, printed, Folder};
 use plancheck::import::import;
 use planner::format;
 use planner::random::Random;
+use samples::examples::example;
 use samples::sheets;
 
 #[test]
@@ -13,11 +14,12 @@ fn planned_sheets_are_accepted() {
     let folder = Folder::new("plan");
     let mut random = Random::new(7);
     for round in 0..30 {
-        let problem = match round % 10 {
+        let mut problem = match round % 10 {
             8 => sheets::middle(&mut random),
             9 => sheets::wide(&mut random),
             _ => sheets::small(&mut random),
         };
+        problem.loss = [None, Some(0), Some(6), Some(u32::MAX)][round % 4];
         folder.write("sheet", format::sheet(&problem));
         let ways: &[&[&str]] = match problem.variables() {
             1..=8 => &[&["plan"], &["plan", "--unweighted"], &["plan", "--tree"]],
@@ -27,6 +29,7 @@ fn planned_sheets_are_accepted() {
             let planned = folder.run(&[way, &["sheet", "-o", "record"][..]].concat());
             let answer = proved::judge(&folder.read("sheet"), &folder.read("record"));
             assert!(answer.accepts());
+            assert!(answer.cost >= problem.standing_loss());
             let line = answer.line() + "\n";
             assert_eq!((printed(&planned), code(&planned)), (line, 0));
             let shown = printed(&folder.run(&["text", "--record", "sheet", "record"]));
@@ -69,6 +72,83 @@ fn a_good_file_is_imported() {
     let wanted =
         "sheet\ncost 1 3\ncost 2 5\ncost 3 0\nclause 1 2  # clause 1\nclause 1 -2  # clause 2\n";
     assert_eq!(printed(&shown), wanted);
+}
+
+/// Soft clauses without literals, and the loss that they come to.
+const LOSSES: [(&str, Option<u32>); 7] = [
+    ("p wcnf 1 2 20\n20 1 0\n3 -1 0\n", None),
+    ("p wcnf 1 3 20\n20 1 0\n3 -1 0\n0 0\n", None),
+    ("p wcnf 1 3 20\n4 0\n20 1 0\n3 -1 0\n", Some(4)),
+    ("p wcnf 1 5 20\n20 1 0\n4 0\n3 -1 0\n0 0\n5 0\n", Some(9)),
+    ("h 1 0\n4 0\n3 -1 0\n", Some(4)),
+    ("h 1 0\n3 -1 0\n4294967295 0\n0 0\n", Some(u32::MAX)),
+    ("4294967294 0\n1 0\nh 1 0\n3 -1 0\n", Some(u32::MAX)),
+];
+
+#[test]
+fn soft_clauses_without_literals_are_the_loss() {
+    for (text, loss) in LOSSES {
+        let problem = import(text).unwrap();
+        assert_eq!(problem.loss, loss, "{text}");
+        assert_eq!((problem.costs, problem.clauses.len()), (vec![3], 1));
+    }
+    // A hard clause without literals is none of them: nothing satisfies it.
+    for text in ["p wcnf 1 2 20\n20 0\n3 -1 0\n", "h 0\n3 -1 0\n"] {
+        let problem = import(text).unwrap();
+        assert_eq!((problem.loss, problem.clauses), (None, vec![vec![]]));
+    }
+}
+
+/// Each sentence whole: the file is the first that is too much.
+#[rustfmt::skip]
+#[test]
+fn what_no_loss_can_hold_is_refused() {
+    let most = "soft clauses without literals come to more than 4294967295";
+    let one = "a soft clause has to have one negative literal, or no literal; this one";
+    let positive = format!("{one} is positive: a sheet cannot make a false variable cost something");
+    let cases = [
+        ("h 1 0\n4294967296 0\n", 2, most.to_string()),
+        ("h 1 0\n4294967295 0\n1 0\n", 3, most.to_string()),
+        ("h 1 0\n1 0\n18446744073709551615 0\n", 3, most.to_string()),
+        ("h 1 0\n4 1 0\n", 2, positive),
+        ("h 1 0\n4 -1 -2 0\n", 2, format!("{one} has 2 literals")),
+        ("h 1 0\n4\n", 2, "a clause stands in one line and ends with 0".to_string()),
+        ("4 0\n", 1, "the file has no variables; a sheet has one at least".to_string()),
+    ];
+    for (text, line, reason) in cases {
+        let fault = import(text).unwrap_err();
+        assert_eq!((fault.line, fault.reason), (line, reason), "{text}");
+    }
+}
+
+/// The sheet A of the classroom, with a loss of 4.
+#[test]
+fn a_loss_is_imported_and_planned() {
+    let folder = Folder::new("import-loss");
+    folder.write(
+        "loss.wcnf",
+        "p wcnf 2 5 20\n20 1 2 0\n20 1 -2 0\n3 -1 0\n5 -2 0\n4 0\n",
+    );
+    let imported = folder.run(&["import", "loss.wcnf", "-o", "sheet"]);
+    assert_eq!(
+        printed(&imported),
+        "sheet: 2 variables, 2 clauses, loss 4\n"
+    );
+    assert_eq!(folder.read("sheet"), example("L1").sheet);
+    for way in [
+        &["plan"][..],
+        &["plan", "--unweighted"],
+        &["plan", "--tree"],
+    ] {
+        let planned = folder.run(&[way, &["sheet", "-o", "record"]].concat());
+        assert!(printed(&planned).starts_with("least 7 open 1 steps "));
+        assert_eq!(code(&planned), 0);
+        let judged = folder.run(&["judge", "sheet", "record"]);
+        assert_eq!(printed(&judged), printed(&planned));
+    }
+    // One step shows 3 and the loss.
+    let planned = folder.run(&["plan", "sheet", "-o", "record", "--steps", "1"]);
+    assert_eq!(printed(&planned), "least 7 open 1 steps 1\n");
 }
 
 #[test]

@@ -267,6 +267,7 @@ impl Case {
     fn drawn(random: &mut Random) -> Case {
         let clauses = [0, 1].map(|_| some_literals(random, 55));
         let problem = Problem {
+            loss: random.percent(50).then_some(5),
             costs: vec![1, 2, 3, 4],
             clauses: clauses.to_vec(),
         };

@@ -255,6 +255,7 @@ fn long_lists_are_cut_and_lines_are_not_wide() {
     let (variables, clauses) = (1024, 4096);
     let literal = |clause: usize, variable: usize| Literal::new(variable, variable > clause / 4);
     let problem = Problem {
+        loss: Some(u32::MAX),
         costs: vec![u32::MAX; variables],
         clauses: (0..clauses)
             .map(|clause| (1..=variables).map(|v| literal(clause, v)).collect())
@@ -342,6 +343,12 @@ impl Sums {
     }
 }
 
+/// The loss at the end of the bound's line; without one the line ends with a word.
+fn told_loss(line: &str) -> Option<u64> {
+    line.rsplit_once(", plus the loss ")
+        .map(|(_, loss)| loss.parse().unwrap())
+}
+
 /// The bound that a step's lines come to.
 fn followed(lines: &[String], literals: &[Literal], divisor: u16) -> u64 {
     let mut sums = Sums::default();
@@ -350,15 +357,17 @@ fn followed(lines: &[String], literals: &[Literal], divisor: u16) -> u64 {
     let line = rest.next().unwrap();
     let told = line.split([' ', ':', ',']).nth(1).unwrap();
     let bound: u64 = told.parse().unwrap();
-    let covered = |bound: u64| total <= i128::from(divisor) * i128::from(bound);
+    let rounded = bound - told_loss(line).unwrap_or(0);
+    let covered = |quotient: u64| total <= i128::from(divisor) * i128::from(quotient);
     assert!(
-        covered(bound) && (bound == 0 || !covered(bound - 1)),
+        covered(rounded) && (rounded == 0 || !covered(rounded - 1)),
         "{line}"
     );
     bound
 }
 
-/// A weighted step drawn at random: now and then something in it is 0, and its bound is any small number.
+/// A weighted step drawn at random: now and then something in it is 0, and its bound is any small number, with the loss or
+/// without.
 fn drawn(problem: &Problem, random: &mut Random) -> Step {
     let mut literals: Vec<Literal> = Vec::new();
     for variable in 1..=problem.variables() {
@@ -376,9 +385,10 @@ fn drawn(problem: &Problem, random: &mut Random) -> Step {
     }
     let least = usize::from(!random.percent(8));
     let divisor = random.between(least, 5) as u16;
+    let loss = u64::from(random.percent(60)) * problem.standing_loss();
     Step {
         literals,
-        bound: random.below(12) as u64,
+        bound: random.below(12) as u64 + loss,
         reason: Reason::Linear { divisor, weights },
     }
 }
@@ -425,6 +435,9 @@ fn mends_of(problem: &Problem, step: &Step) -> Vec<(u64, String)> {
     if let (Reason::Linear { divisor, .. }, 19 | 24) = (&step.reason, answer.number) {
         let bound = followed(&lines[3..], &step.literals, *divisor);
         assert_eq!(bound == step.bound, answer.number == 19, "{lines:?}");
+        let losses: Vec<u64> = lines.iter().filter_map(|line| told_loss(line)).collect();
+        let wanted = problem.loss.map(u64::from);
+        assert_eq!(losses, wanted.into_iter().collect::<Vec<_>>(), "{lines:?}");
     }
     let mends = lines.iter().filter(|line| line.starts_with("mend: "));
     assert_eq!(mends.clone().count() == 0, answer.number == 19, "{lines:?}");
@@ -442,10 +455,11 @@ fn mends_mend() {
     let mut random = Random::new(23);
     let mut met: BTreeMap<(u64, String), usize> = BTreeMap::new();
     for _ in 0..400 {
-        let problem = sheets::small(&mut random);
+        let mut problem = sheets::small(&mut random);
         if problem.clauses.is_empty() {
             continue;
         }
+        problem.loss = [None, Some(0), Some(3), Some(u32::MAX)][random.below(4)];
         for _ in 0..20 {
             let step = drawn(&problem, &mut random);
             for way in mends_of(&problem, &step) {

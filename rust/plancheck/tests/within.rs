@@ -207,10 +207,11 @@ fn planned_records_keep_to_their_steps() {
     let mut random = Random::new(17);
     let mut within = 0;
     for round in 0..24 {
-        let problem = match round % 3 {
+        let mut problem = match round % 3 {
             0 => sheets::middle(&mut random),
             _ => sheets::small(&mut random),
         };
+        problem.loss = (round % 2 == 0).then_some(round);
         let enough = search::plan(&problem).steps.len();
         for steps in [1, 2, 3, 5, 9, enough] {
             let verdict = steps_are_kept(&folder, &problem, steps);

@@ -58,6 +58,7 @@ fn what_is_written_already_stays() {
         (sheet(&[0]), "1 clause, 24 bytes"),
         (example("A1").sheet, "2 clauses, 36 bytes"),
         (example("W2").sheet, "3 clauses, 52 bytes"),
+        (example("L1").sheet, "2 clauses, 40 bytes"),
     ];
     for (sheet, size) in sheets {
         folder.write("sheet", &sheet);
@@ -104,6 +105,69 @@ fn other_sheets_give_other_bytes() {
     assert_eq!(written.iter().collect::<BTreeSet<_>>().len(), texts.len());
 }
 
+/// Sheet A's costs and clauses in these orders, with this line for the loss.
+fn with_loss(loss: &str, clauses: [&str; 2]) -> Vec<u8> {
+    let [first, second] = clauses;
+    packed(&format!(
+        "sheet\ncost 1 3\ncost 2 5\n{loss}clause {first}\nclause {second}\n"
+    ))
+}
+
+const IN_ORDER: [&str; 2] = ["1 2", "1 -2"];
+const TURNED: [&str; 2] = ["1 -2", "1 2"];
+const NO_MARK: &str = "the mark is left out, since the loss is 0\n";
+const KEPT: &str =
+    "no clause number has moved: a record of the sheet does for the written one too\n";
+
+#[test]
+fn a_mark_without_a_loss_is_left_out() {
+    let folder = Folder::new("marks");
+    let least = with_loss("", IN_ORDER);
+    let lists = [
+        (with_loss("loss 0\n", IN_ORDER), format!("{NO_MARK}{KEPT}")),
+        (with_loss("loss 0\n", TURNED), format!("{NO_MARK}{MOVED}")),
+        (with_loss("", TURNED), MOVED.to_string()),
+        (least.clone(), UNMOVED.to_string()),
+    ];
+    for (sheet, told) in lists {
+        folder.write("sheet", sheet);
+        let written = folder.run(&["write", "sheet", "-o", "out"]);
+        let told = format!("out: 2 clauses, 36 bytes; repeats left out: 0\n{told}");
+        assert_eq!((printed(&written), code(&written)), (told, 0));
+        assert_eq!(folder.read("out"), least);
+    }
+}
+
+#[test]
+fn a_loss_is_written_as_it_stands() {
+    let folder = Folder::new("losses");
+    let mut all = BTreeSet::from([with_loss("", IN_ORDER)]);
+    for loss in ["loss 1\n", "loss 4\n", "loss 4294967295\n"] {
+        let least = with_loss(loss, IN_ORDER);
+        for (clauses, told) in [(IN_ORDER, UNMOVED), (TURNED, MOVED)] {
+            folder.write("sheet", with_loss(loss, clauses));
+            let written = folder.run(&["write", "sheet", "-o", "out"]);
+            let told = format!("out: 2 clauses, 40 bytes; repeats left out: 0\n{told}");
+            assert_eq!((printed(&written), code(&written)), (told, 0));
+            assert_eq!(folder.read("out"), least);
+        }
+        assert!(all.insert(least));
+    }
+}
+
+/// What the second line says when the mark alone goes.
+#[test]
+fn a_record_outlives_the_mark() {
+    let folder = Folder::new("outlives-mark");
+    folder.write("sheet", with_loss("loss 0\n", IN_ORDER));
+    folder.write("record", example("A1").record);
+    assert_eq!(code(&folder.run(&["write", "sheet", "-o", "out"])), 0);
+    for sheet in ["sheet", "out"] {
+        let judged = folder.run(&["judge", sheet, "record"]);
+        assert_eq!(printed(&judged), "least 3 open 1 steps 5\n");
+    }
+}
+
 #[test]
 fn the_sheet_itself_may_be_written_over() {
     let folder = Folder::new("itself");
@@ -125,8 +189,8 @@ fn with(mut sheet: Vec<u8>, place: usize, byte: u8) -> Vec<u8> {
 
 /// Refused sheets, and the first line, the refusal's word and the last line of what is said of them.
 #[rustfmt::skip]
-fn refused_sheets() -> [(Vec<u8>, &'static str, &'static str, &'static str); 6] {
-    let a1 = || example("A1").sheet;
+fn refused_sheets() -> [(Vec<u8>, &'static str, &'static str, &'static str); 9] {
+    let (a1, l1) = (|| example("A1").sheet, || example("L1").sheet);
     let longer = [example("B1").sheet, vec![0]].concat();
     [
         (Vec::new(), "byte 0: refused 2 at 0", "Sheet head: ", "sheet: 0 bytes"),
@@ -138,6 +202,11 @@ fn refused_sheets() -> [(Vec<u8>, &'static str, &'static str, &'static str); 6] 
             "sheet (byte 0): 1 variables, 0 clauses; costs and pairs end at byte 8, the file has 9 bytes"),
         (with(a1(), 34, 3), "byte 32: refused 4 at 2", "Rule form: ", "clause 2 (sheet, byte 32): 1 -1"),
         (with(a1(), 30, 6), "byte 28: refused 4 at 1", "Rule form: ", "clause 1 (sheet, byte 28): 1 3"),
+        (l1()[..14].to_vec(), "byte 0: refused 2 at 0", "Sheet head: ",
+            "sheet (byte 0): marked, 2 variables, 2 clauses; costs, loss and pairs end at byte 32, the file has 14 bytes"),
+        (with(l1(), 16, 28), "byte 16: refused 3 at 1", "Sheet pairs: ",
+            "clause 1 (sheet, pair at byte 16): offset 28, length 4; the offset due is 32"),
+        (with(l1(), 38, 3), "byte 36: refused 4 at 2", "Rule form: ", "clause 2 (sheet, byte 36): 1 -1"),
     ]
 }
 
@@ -230,6 +299,7 @@ fn a_record_keeps_to_its_own_sheet() {
         ("W1", "refused 19 at 1\n", "refused 24 at 1\n"),
         ("A1", "least 3 open 1 steps 5\n", "least 3 open 1 steps 5\n"),
         ("W2", "least 2 open 2 steps 1\n", "least 2 open 2 steps 1\n"),
+        ("L1", "least 7 open 1 steps 5\n", "least 7 open 1 steps 5\n"),
     ];
     for (name, own, written) in lines {
         assert_eq!(judged_beside(name), [own, written], "{name}");

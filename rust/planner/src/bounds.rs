@@ -1,11 +1,13 @@
-//! The bound that each way of deriving a cost clause allows, and the literals of a resolvent.
+//! The bound that each way of deriving a cost clause allows, and the literals of a resolvent. A bound includes the standing
+//! loss, as every cost does.
 
 use crate::problem::{Literal, Problem};
 
-/// What the variables cost that are true wherever all these literals are false.
+/// What the variables cost that are true wherever all these literals are false, with the standing loss.
 pub fn cost_bound(problem: &Problem, literals: &[Literal]) -> u64 {
     let paid = literals.iter().filter(|literal| !literal.is_positive());
-    paid.map(|literal| problem.cost_of(*literal)).sum()
+    let paid = paid.map(|literal| problem.cost_of(*literal));
+    problem.standing_loss() + paid.sum::<u64>()
 }
 
 /// The bound of an independent set of clauses, numbered from 1, where all literals are false;
@@ -48,7 +50,8 @@ pub fn remainders(problem: &Problem, divisor: u16, weights: &[(u32, u16)]) -> Ve
     left
 }
 
-/// The sum of the clauses as linear constraints, each times its weight, at its least where all literals are false.
+/// The sum of the clauses as linear constraints, each times its weight, at its least where all literals are false. The
+/// standing loss is no part of it.
 ///
 /// Below 2^58 and not below -2^38, however large the sheet and the weights are.
 pub fn linear_total(
@@ -75,7 +78,8 @@ pub fn linear_total(
     weights.iter().map(constant).sum::<i64>() + left.iter().zip(&settled).map(least).sum::<i64>()
 }
 
-/// The bound of weighted clauses where all literals are false: the total over the divisor, rounded up, and never below 0.
+/// The bound of weighted clauses where all literals are false: the total over the divisor, rounded up, and never below 0; and
+/// only then the standing loss, which is not rounded.
 pub fn linear_bound(
     problem: &Problem,
     literals: &[Literal],
@@ -83,7 +87,8 @@ pub fn linear_bound(
     weights: &[(u32, u16)],
 ) -> u64 {
     let total = linear_total(problem, literals, divisor, weights);
-    u64::try_from(total).map_or(0, |total| total.div_ceil(u64::from(divisor)))
+    let rounded = u64::try_from(total).map_or(0, |total| total.div_ceil(u64::from(divisor)));
+    problem.standing_loss() + rounded
 }
 
 /// Both premises without the pivot; nothing when a premise lacks its pivot literal or when the

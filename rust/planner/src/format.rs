@@ -8,6 +8,9 @@ pub const PAIR: usize = 8;
 pub const RECORD_HEAD: usize = 12;
 pub const STEP_HEAD: usize = 12;
 
+/// The bit of a sheet's first number that tells of a standing loss behind the costs; the rest of it counts the variables.
+pub const MARK: u16 = 0x8000;
+
 /// Where a record tells how many steps it has.
 pub const STEP_COUNT: usize = 8;
 
@@ -63,13 +66,14 @@ pub fn literal_bytes(literals: &[Literal]) -> Vec<u8> {
         .collect()
 }
 
-/// A sheet from its costs and its clause bodies.
-pub fn sheet_from(costs: &[u32], clauses: &Bodies) -> Vec<u8> {
-    let mut file = Vec::with_capacity(4 + 4 * costs.len() + clauses.size());
-    file.extend_from_slice(&(costs.len() as u16).to_le_bytes());
+/// A sheet from its standing loss, its costs and its clause bodies; it is marked where there is a loss, even one of 0.
+pub fn sheet_from(loss: Option<u32>, costs: &[u32], clauses: &Bodies) -> Vec<u8> {
+    let mut file = Vec::with_capacity(8 + 4 * costs.len() + clauses.size());
+    let mark = loss.map_or(0, |_| MARK);
+    file.extend_from_slice(&(costs.len() as u16 | mark).to_le_bytes());
     file.extend_from_slice(&(clauses.count() as u16).to_le_bytes());
-    for cost in costs {
-        file.extend_from_slice(&cost.to_le_bytes());
+    for number in costs.iter().chain(&loss) {
+        file.extend_from_slice(&number.to_le_bytes());
     }
     append_bodies(&mut file, clauses);
     file
@@ -81,7 +85,7 @@ pub fn sheet(problem: &Problem) -> Vec<u8> {
         .iter()
         .map(|clause| literal_bytes(clause))
         .collect();
-    sheet_from(&problem.costs, &clauses)
+    sheet_from(problem.loss, &problem.costs, &clauses)
 }
 
 /// A record from its claim, the bytes of its assignment and its step bodies.

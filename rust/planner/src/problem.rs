@@ -1,4 +1,5 @@
-//! The optimization problem that a sheet holds: clauses over variables that cost something when true.
+//! The optimization problem that a sheet holds: clauses over variables that cost something when true, and a standing loss
+//! that every assignment costs.
 
 /// The claim or bound that stands for "no assignment at all"; it is stored as it is.
 pub const NONE: u64 = u64::MAX;
@@ -60,6 +61,8 @@ impl Literal {
 /// Every clause is sorted by code and holds no variable twice.
 #[derive(Clone, Debug, PartialEq, Eq)]
 pub struct Problem {
+    /// The standing loss of a marked sheet; a sheet without a mark has none.
+    pub loss: Option<u32>,
     pub costs: Vec<u32>,
     pub clauses: Vec<Vec<Literal>>,
 }
@@ -67,6 +70,11 @@ pub struct Problem {
 impl Problem {
     pub fn variables(&self) -> usize {
         self.costs.len()
+    }
+
+    /// What every assignment costs, whatever is true in it.
+    pub fn standing_loss(&self) -> u64 {
+        self.loss.map_or(0, u64::from)
     }
 
     /// The cost of the literal's variable when that variable is true.
@@ -85,12 +93,13 @@ impl Problem {
             .position(|clause| !clause.iter().any(|literal| literal.is_true(assignment)))
     }
 
+    /// The standing loss with what the true variables cost.
     pub fn cost(&self, assignment: &[bool]) -> u64 {
         let paid = self
             .costs
             .iter()
             .zip(assignment)
             .filter(|(_, value)| **value);
-        paid.map(|(cost, _)| u64::from(*cost)).sum()
+        self.standing_loss() + paid.map(|(cost, _)| u64::from(*cost)).sum::<u64>()
     }
 }

@@ -2,7 +2,7 @@
 
 mod common;
 
-use common::{accepted, problem, Shape};
+use common::{accepted, problem, Shape, LOSSES};
 use planner::random::Random;
 use planner::search::{plan_by, plan_in, Bounds};
 use planner::{format, Literal, Plan, Problem, NONE};
@@ -24,6 +24,7 @@ fn sheet_of(costs: &[u32], clauses: &[&[i32]]) -> Problem {
     let literal = |held: &i32| Literal::new(held.unsigned_abs() as usize, *held > 0);
     let read = |clause: &&[i32]| clause.iter().map(literal).collect();
     Problem {
+        loss: None,
         costs: costs.to_vec(),
         clauses: clauses.iter().map(read).collect(),
     }
@@ -87,7 +88,8 @@ fn every_number_of_steps_is_kept_and_the_gap_never_grows() {
         let variables = random.between(4, 12);
         let clauses = random.between(variables, 4 * variables);
         let shape = shape(variables, clauses, 30 + round % 60, [1, 9, 999][round % 3]);
-        let problem = problem(&shape, &mut random);
+        let mut problem = problem(&shape, &mut random);
+        problem.loss = LOSSES[round % 4];
         for bounds in BOTH {
             let answers = answers(&problem, bounds);
             let falls = |pair: &[Option<Answer>]| gap(&pair[0]) >= gap(&pair[1]);
@@ -175,7 +177,11 @@ fn birds(birds: usize, holes: usize) -> Problem {
         }
     }
     let costs = vec![1; birds * holes];
-    Problem { costs, clauses }
+    Problem {
+        loss: None,
+        costs,
+        clauses,
+    }
 }
 
 #[test]
@@ -208,9 +214,12 @@ fn sheets_at_the_limits_have_plans_too() {
     }
     let mut random = Random::new(1);
     for (dearest, steps) in [(1, 1), (1, u64::MAX), (u32::MAX as usize, 4)] {
-        let largest = problem(&shape(1_024, 500, 70, dearest), &mut random);
-        let answer = judged_in(&largest, Bounds::Weights, steps).unwrap();
-        assert!(answer.accepts() || steps < u64::MAX);
+        let mut largest = problem(&shape(1_024, 500, 70, dearest), &mut random);
+        for loss in LOSSES {
+            largest.loss = loss;
+            let answer = judged_in(&largest, Bounds::Weights, steps).unwrap();
+            assert!(answer.accepts() || steps < u64::MAX);
+        }
     }
 }
 

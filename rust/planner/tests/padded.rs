@@ -2,7 +2,7 @@
 
 mod common;
 
-use common::{accepted, problem, Shape};
+use common::{accepted, problem, Shape, LOSSES};
 use planner::bounds::{linear_total, remainders};
 use planner::padding::{Kind, Mix, Padding};
 use planner::random::Random;
@@ -55,10 +55,16 @@ fn records_of_every_mix_are_accepted() {
         (&long_clauses, Mix::LongOf(Kind::Linear)),
     ];
     for (problem, mix) in mixes {
-        let plan = search::plan(problem);
-        let record = long::record(problem, &plan, 3, 300_000, mix);
-        assert!((300_000..301_000).contains(&record.len()), "{mix:?}");
-        assert!(accepted(problem, &record), "{mix:?}");
+        for loss in [None, Some(u32::MAX)] {
+            let problem = Problem {
+                loss,
+                ..problem.clone()
+            };
+            let plan = search::plan(&problem);
+            let record = long::record(&problem, &plan, 3, 300_000, mix);
+            assert!((300_000..301_000).contains(&record.len()), "{mix:?}");
+            assert!(accepted(&problem, &record), "{mix:?}, {loss:?}");
+        }
     }
 }
 
@@ -73,6 +79,7 @@ fn mixed_records_of_small_sheets_are_accepted() {
             [1, 4],
             dearest,
         );
+        problem.loss = LOSSES[round / 2 % 4];
         if round % 2 == 0 {
             problem.costs[0] = 0;
         }

@@ -2,7 +2,7 @@
 
 mod common;
 
-use common::{accepted, problem, Shape};
+use common::{accepted, problem, Shape, LOSSES};
 use planner::bounds::{cost_bound, linear_bound, linear_total};
 use planner::random::Random;
 use planner::search::{plan_by, plan_within, Bounds};
@@ -54,6 +54,7 @@ fn linear_steps(plan: &Plan) -> impl Iterator<Item = (&Step, u16, &[(u32, u16)])
 #[test]
 fn the_source_documents_third_example_has_bound_eleven() {
     let problem = Problem {
+        loss: None,
         costs: (1..=6).collect(),
         clauses: vec![
             clause(&[1, 3, 5]),
@@ -71,9 +72,11 @@ fn the_source_documents_third_example_has_bound_eleven() {
     assert_eq!([bound(&[5, -6], 2), bound(&[-1, 5, -6], 2)], [9, 9]);
 }
 
-/// The sum of the clauses as linear constraints under one assignment: what the cost, times the divisor, is above it.
+/// The sum of the clauses as linear constraints under one assignment: what the cost, times the divisor, is above it. Of the
+/// cost the standing loss is left out, which comes to the bound alone.
 fn sum_under(problem: &Problem, values: &[bool], divisor: u16, weights: &[(u32, u16)]) -> i128 {
-    let mut sum = i128::from(divisor) * i128::from(problem.cost(values));
+    let paid = problem.cost(values) - problem.standing_loss();
+    let mut sum = i128::from(divisor) * i128::from(paid);
     for (number, weight) in weights {
         let held = problem.clauses[*number as usize - 1].iter();
         let satisfied = held.filter(|literal| literal.is_true(values)).count();
@@ -104,10 +107,11 @@ fn assignments(variables: usize) -> impl Iterator<Item = Vec<bool>> {
 fn the_total_is_the_least_sum_over_all_assignments_that_falsify_the_literals() {
     let mut random = Random::new(50);
     let mut signs = [0, 0];
-    for _ in 0..3_000 {
+    for round in 0..3_000 {
         let variables = random.between(4, 7);
         let dearest = [1, 9, u32::MAX as usize][random.below(3)];
-        let problem = problem(&shape(variables, 6, 60, dearest), &mut random);
+        let mut problem = problem(&shape(variables, 6, 60, dearest), &mut random);
+        problem.loss = LOSSES[round % 4];
         let most = [9, 65_535][random.below(2)];
         let divisor = random.between(1, most) as u16;
         let weights: Vec<(u32, u16)> = (1..=6)
@@ -121,7 +125,8 @@ fn the_total_is_the_least_sum_over_all_assignments_that_falsify_the_literals() {
             .min();
         let total = i128::from(linear_total(&problem, &literals, divisor, &weights));
         assert_eq!(Some(total), least, "{problem:?}");
-        let bound = i128::from(linear_bound(&problem, &literals, divisor, &weights));
+        let bound = linear_bound(&problem, &literals, divisor, &weights);
+        let bound = i128::from(bound - problem.standing_loss());
         let reached = |bound| total <= i128::from(divisor) * bound;
         assert!(reached(bound) && (bound == 0 || !reached(bound - 1)));
         signs[usize::from(total > 0)] += 1;
@@ -197,6 +202,7 @@ fn large_costs_fall_back_on_independent_clauses() {
     for round in 0..60 {
         let dearest = [u32::MAX as usize, 100_000, 65_536][round % 3];
         let mut problem = problem(&shape(20, 40, 90, dearest), &mut random);
+        problem.loss = LOSSES[round % 4];
         if dearest > 1 << 31 {
             problem.costs.iter_mut().for_each(|cost| *cost |= 1 << 31);
         }
@@ -217,9 +223,10 @@ fn large_costs_fall_back_on_independent_clauses() {
 fn variables_without_a_cost_and_sheets_without_an_assignment_are_planned_too() {
     let mut random = Random::new(0);
     let mut none = 0;
-    for _ in 0..300 {
+    for round in 0..300 {
         let (variables, positive) = (random.between(4, 10), random.between(20, 90));
         let mut problem = problem(&shape(variables, 8 * variables, positive, 3), &mut random);
+        problem.loss = LOSSES[round % 4];
         problem.costs.iter_mut().for_each(|cost| *cost -= 1);
         let (plan, _) = planned(&problem, Bounds::Weights);
         assert!(accepted(&problem, &plan.record()), "{problem:?}");

@@ -10,6 +10,7 @@ fn clause(literals: &[i32]) -> Vec<Literal> {
 
 fn two_clauses() -> Problem {
     Problem {
+        loss: None,
         costs: vec![3, 5],
         clauses: vec![clause(&[1, 2]), clause(&[1, -2])],
     }
@@ -28,6 +29,7 @@ fn eight_clauses() -> Problem {
     ];
     let clauses = clauses.iter().map(|literals| clause(literals)).collect();
     Problem {
+        loss: None,
         costs: (1..=6).collect(),
         clauses,
     }
@@ -90,6 +92,7 @@ fn eight_clauses_cost_eleven_both_ways() {
 fn a_resolvent_that_holds_a_variable_both_ways_is_refused() {
     let clauses = vec![clause(&[1, 2]), clause(&[-1, -2])];
     let problem = Problem {
+        loss: None,
         costs: vec![3, 5],
         clauses,
     };
@@ -101,10 +104,12 @@ fn a_resolvent_that_holds_a_variable_both_ways_is_refused() {
 #[test]
 fn nothing_satisfies_an_empty_clause_and_nothing_is_cheapest_without_clauses() {
     let broken = Problem {
+        loss: None,
         costs: vec![7],
         clauses: vec![clause(&[])],
     };
     let free = Problem {
+        loss: None,
         costs: vec![7],
         clauses: Vec::new(),
     };

@@ -156,7 +156,7 @@ pub fn show<'a>(sheet: &'a [u8], record: &'a [u8], step: u32) -> &'a [u8] {
 }
 
 /// Writes a sheet in the one way: the clauses sorted by their codes, a list before the longer ones that begin with it, each
-/// once.
+/// once, and a mark only where the loss is not 0.
 ///
 /// The buffer then begins with the written sheet, and the bytes behind it stay; where the sheet is refused, or the buffer is
 /// too short (25), all of it stays. A buffer as long as the sheet is always enough. Clauses may get other numbers, so that a

@@ -28,8 +28,9 @@ impl Assignment {
         })
     }
 
-    /// The sum of the costs of the true variables.
+    /// The standing loss, and the costs of the true variables.
     pub fn cost(&self, sheet: &Sheet) -> u128 {
-        self.true_variables.iter().map(|v| sheet.cost(*v)).sum()
+        let costs = self.true_variables.iter().map(|v| sheet.cost(*v));
+        sheet.standing_loss() + costs.sum::<u128>()
     }
 }

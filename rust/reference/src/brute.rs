@@ -124,6 +124,7 @@ struct Masks {
 }
 
 struct Problem {
+    standing_loss: u64,
     costs: Vec<u64>,
     clauses: Vec<Masks>,
 }
@@ -132,6 +133,7 @@ impl Problem {
     fn of(sheet: &Sheet) -> Problem {
         let variables = 1..=sheet.variable_count();
         Problem {
+            standing_loss: sheet.standing_loss() as u64,
             costs: variables.map(|v| sheet.cost(v) as u64).collect(),
             clauses: sheet.clauses().iter().map(Masks::of).collect(),
         }
@@ -148,7 +150,7 @@ impl Problem {
     }
 
     fn cost(&self, assignment: u32) -> u64 {
-        let mut cost = 0;
+        let mut cost = self.standing_loss;
         for (index, variable_cost) in self.costs.iter().enumerate() {
             if assignment & (1 << index) != 0 {
                 cost += variable_cost;

@@ -88,11 +88,12 @@ fn check_clause(
     Ok(())
 }
 
-/// The costs that the falsifier forces, and for each cited clause the cheapest way left to satisfy it. Settled
-/// variables of a clause are no way to satisfy it, so they do not count for its least cost.
+/// The standing loss, the costs that the falsifier forces, and for each cited clause the cheapest way left to satisfy
+/// it. Settled variables of a clause are no way to satisfy it, so they do not count for its least cost.
 fn independent_bound(sheet: &Sheet, falsifier: &Falsifier, cited: &[&BTreeSet<Literal>]) -> u128 {
     let forced = falsifier.true_variables.iter();
-    let mut bound: u128 = forced.map(|variable| sheet.cost(*variable)).sum();
+    let forced_costs = forced.map(|variable| sheet.cost(*variable));
+    let mut bound = sheet.standing_loss() + forced_costs.sum::<u128>();
     for clause in cited {
         let unsettled = falsifier.unsettled(clause);
         let costs = unsettled

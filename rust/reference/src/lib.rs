@@ -1,4 +1,4 @@
-//! The reference checker: document 01, with changes 1, 2, 3, 5 and 6 of document 02, in the plainest Rust there is.
+//! The reference checker: document 01, with changes 1, 2, 3, 5, 6 and 7 of document 02, in the plainest Rust there is.
 //! Change 4 alters no answer.
 //!
 //! It exists to be compared with the proved checker, so it shares nothing with it and prefers sets, copies and
@@ -46,5 +46,5 @@ pub use judge::{judge, oversize, sheet_is_valid};
 pub use show::{line, show};
 pub use write::{write_sheet, Written};
 
-/// The bound, or the claim, "none". No sum of a sheet's costs comes near it.
+/// The bound, or the claim, "none". No sum of a sheet's costs comes near it, its standing loss included.
 pub const NONE: u64 = u64::MAX;

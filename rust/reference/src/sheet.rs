@@ -9,9 +9,17 @@ use std::collections::BTreeSet;
 const MOST_VARIABLES: u64 = 1_024;
 const MOST_CLAUSES: u64 = 4_096;
 
+/// The highest bit of the n field. Where it is set, the sheet is marked: n is the rest of the field, and a standing
+/// loss follows the costs.
+pub(crate) const MARK: u64 = 0x8000;
+
+/// How many bytes a standing loss takes.
+pub(crate) const LOSS_SIZE: usize = 4;
+
 /// A valid sheet. Variables and clauses are numbered from 1, so each stands at its number less 1.
 pub(crate) struct Sheet<'a> {
     costs: Vec<u64>,
+    standing_loss: u64,
     bodies: Bodies<'a>,
     clauses: Vec<BTreeSet<Literal>>,
 }
@@ -24,6 +32,12 @@ impl<'a> Sheet<'a> {
     /// The cost of a variable from 1 to n.
     pub fn cost(&self, variable: u32) -> u128 {
         u128::from(self.costs[variable as usize - 1])
+    }
+
+    /// What every assignment costs before any variable is true: 0 for an unmarked sheet. A marked one may have the loss
+    /// 0 as well, and means the same by it.
+    pub fn standing_loss(&self) -> u128 {
+        u128::from(self.standing_loss)
     }
 
     pub fn clauses(&self) -> &[BTreeSet<Literal>] {
@@ -41,15 +55,24 @@ impl<'a> Sheet<'a> {
     }
 }
 
-/// n and m, once the costs and the pairs are known to be there.
+/// The mark, n and m, once the costs, the loss and the pairs are known to be there.
 struct Head {
+    is_marked: bool,
     variable_count: u32,
     clause_count: u64,
 }
 
 impl Head {
-    fn pairs_start(&self) -> usize {
+    fn costs_end(&self) -> usize {
         4 + 4 * self.variable_count as usize
+    }
+
+    fn pairs_start(&self) -> usize {
+        if self.is_marked {
+            self.costs_end() + LOSS_SIZE
+        } else {
+            self.costs_end()
+        }
     }
 }
 
@@ -58,9 +81,12 @@ pub(crate) fn read(file: &[u8]) -> Result<Sheet<'_>, Refusal> {
     let head = read_head(file)?;
     let bodies = read_bodies(file, &head)?;
     let clauses = read_clauses(&bodies, head.variable_count)?;
-    let costs = file[4..head.pairs_start()].chunks_exact(4).map(number);
+    let costs = file[4..head.costs_end()].chunks_exact(4).map(number);
+    // An unmarked sheet has no bytes here, and the number that no bytes store is 0.
+    let standing_loss = number(&file[head.costs_end()..head.pairs_start()]);
     Ok(Sheet {
         costs: costs.collect(),
+        standing_loss,
         bodies,
         clauses,
     })
@@ -71,12 +97,15 @@ fn read_head(file: &[u8]) -> Result<Head, Refusal> {
     if file.len() < 4 {
         return refuse(SHEET_HEAD, 0);
     }
-    let variable_count = number(&file[0..2]);
+    let field = number(&file[0..2]);
+    let is_marked = field & MARK != 0;
+    let variable_count = field & !MARK;
     let clause_count = number(&file[2..4]);
     if !(1..=MOST_VARIABLES).contains(&variable_count) || clause_count > MOST_CLAUSES {
         return refuse(SHEET_HEAD, 0);
     }
     let head = Head {
+        is_marked,
         variable_count: variable_count as u32,
         clause_count,
     };

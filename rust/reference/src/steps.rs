@@ -147,11 +147,12 @@ fn check_copy(clause: &BTreeSet<Literal>, conclusion: &CostClause) -> Result<(),
     }
 }
 
-/// Refusal 13: making a negative literal false makes its variable true, and that is what has to be paid.
+/// Refusal 13: making a negative literal false makes its variable true, and that is what has to be paid beside the
+/// standing loss.
 fn check_cost_bound(sheet: &Sheet, conclusion: &CostClause) -> Result<(), u32> {
     let negative = conclusion.literals.iter().filter(|l| !l.is_positive());
     let sum: u128 = negative.map(|literal| sheet.cost(literal.variable())).sum();
-    if u128::from(conclusion.bound) == sum {
+    if u128::from(conclusion.bound) == sheet.standing_loss() + sum {
         Ok(())
     } else {
         Err(COST_BOUND)

@@ -58,7 +58,9 @@ pub(crate) fn check(
     let cited: Vec<Cited> = cited.collect();
     let divisor = i128::from(divisor);
     let total = total(sheet, divisor, &cited, &conclusion.literals);
-    if !is_linear_bound(conclusion.bound, total, divisor) {
+    // The standing loss is no part of the total: the bound is the rounded quotient and the loss, which is not divided.
+    let quotient = i128::from(conclusion.bound) - sheet.standing_loss() as i128;
+    if !is_rounded_up(quotient, total, divisor) {
         return Err(LINEAR_BOUND);
     }
     Ok(())
@@ -108,9 +110,9 @@ fn share(remainder: i128, variable: u32, literals: &BTreeSet<Literal>) -> i128 {
     }
 }
 
-/// The bound is the least number, from 0 on, whose product with the divisor reaches the total. The product rises with the bound, so it is enough to look one below.
-fn is_linear_bound(bound: u64, total: i128, divisor: i128) -> bool {
+/// The quotient is the least number, from 0 on, whose product with the divisor reaches the total. The product rises
+/// with the quotient, so it is enough to look one below.
+fn is_rounded_up(quotient: i128, total: i128, divisor: i128) -> bool {
     let reaches = |candidate: i128| total <= divisor * candidate;
-    let bound = i128::from(bound);
-    reaches(bound) && (bound == 0 || !reaches(bound - 1))
+    quotient >= 0 && reaches(quotient) && (quotient == 0 || !reaches(quotient - 1))
 }

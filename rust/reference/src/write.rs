@@ -4,7 +4,7 @@ use crate::judge::check_size;
 use crate::layout::{append_bodies, append_number};
 use crate::literal::Literal;
 use crate::refusal::{refuse, Refusal, SHORT_BUFFER};
-use crate::sheet::{self, Sheet};
+use crate::sheet::{self, Sheet, LOSS_SIZE, MARK};
 use std::collections::BTreeSet;
 
 /// The answer to a sheet and a buffer.
@@ -18,8 +18,8 @@ pub struct Written {
     pub length: u64,
 }
 
-/// Writes the sheet with its clauses in order, each once, to the start of the buffer. The bytes past what is written
-/// stay, and with a refusal the whole buffer does.
+/// Writes the sheet with its clauses in order, each once, and without a mark whose loss is 0, to the start of the
+/// buffer. The bytes past what is written stay, and with a refusal the whole buffer does.
 ///
 /// Clauses get other numbers by this, so a record of the sheet is none of the written one.
 pub fn write_sheet(sheet: &[u8], out: &mut [u8]) -> Written {
@@ -56,17 +56,25 @@ fn check_room(bytes: &[u8], out_len: usize) -> Result<(), Refusal> {
     Ok(())
 }
 
-/// The bytes of every sheet that has these variables, costs and set of clauses. They are no more than any of those
-/// sheets has, so offsets and lengths fit into their 4 bytes again.
+/// The bytes of every sheet that has these variables, costs, standing loss and set of clauses. They are no more than
+/// any of those sheets has, so offsets and lengths fit into their 4 bytes again.
+///
+/// Among those sheets are unmarked ones exactly where the loss is 0, and there no mark is written.
 fn canonical(sheet: &Sheet) -> Vec<u8> {
     // A set of lists is kept in the order asked for: by the first code that differs, and a list before those that it
     // begins.
     let clauses: BTreeSet<Vec<u32>> = sheet.clauses().iter().map(codes).collect();
     let mut file = Vec::new();
-    append_number(&mut file, u128::from(sheet.variable_count()), 2);
+    let is_marked = sheet.standing_loss() != 0;
+    let mark = if is_marked { MARK } else { 0 };
+    let field = u64::from(sheet.variable_count()) | mark;
+    append_number(&mut file, u128::from(field), 2);
     append_number(&mut file, clauses.len() as u128, 2);
     for variable in 1..=sheet.variable_count() {
         append_number(&mut file, sheet.cost(variable), 4);
+    }
+    if is_marked {
+        append_number(&mut file, sheet.standing_loss(), LOSS_SIZE);
     }
     let bodies: Vec<Vec<u8>> = clauses.iter().map(|codes| body(codes)).collect();
     append_bodies(&mut file, &bodies);

@@ -101,6 +101,16 @@ fn every_byte_of_case_a_set_to_every_value() {
     assert_eq!(met.within, 3);
 }
 
+/// The same with a loss of 7 on the sheet and in the costs. The last bound may be any up to 9.
+#[test]
+fn every_byte_of_case_a_with_a_loss_set_to_every_value() {
+    let record = record(10, &[0b01], &steps_with_loss(7, &steps_a()));
+    let met = met_by_one_byte(&marked(7, &sheet_a()), &record);
+    met.assert_all_refusals_but(&[1, 14, 15, 19, 20, 22, 23, 24]);
+    assert!(met.accepted > 0);
+    assert_eq!(met.within, 10);
+}
+
 /// The same steps under a claim that they leave a gap to: the same refusals, and not one acceptance.
 #[test]
 fn every_byte_of_case_a4_set_to_every_value() {

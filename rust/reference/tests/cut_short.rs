@@ -45,13 +45,7 @@ fn every_beginning_of_record_a_between_bounds() {
 /// A derivation in rounds, each of which ends without literals. The first bound is 0 and the last is the least cost,
 /// or "none"; those between are at least 1 and at least half of it.
 fn in_rounds(numbers: &mut Numbers) -> Derivation {
-    let bounding = match numbers.below(4) {
-        0 => Bounding::Nothing,
-        1 => Bounding::IndependentSets,
-        divisor => Bounding::Weights {
-            divisor: divisor as u16 - 1,
-        },
-    };
+    let bounding = Bounding::random(numbers);
     let mut derivation = Derivation::random(numbers).with(bounding);
     let least = derivation.enough;
     derivation.steps.push(cost_step(&[], 0));

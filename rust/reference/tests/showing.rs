@@ -5,11 +5,6 @@ mod common;
 use common::*;
 use reference::{judge, line, show};
 
-/// The shown part is these bytes of this file, by address and not just by content.
-fn assert_part(shown: &[u8], file: &[u8], range: std::ops::Range<usize>) {
-    assert_eq!(shown.as_ptr_range(), file[range].as_ptr_range());
-}
-
 #[test]
 fn kind_1_shows_the_clause_in_the_sheet() {
     let (sheet, record) = (sheet_a(), record_a());

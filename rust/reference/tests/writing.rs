@@ -1,55 +1,13 @@
 //! One way to write a sheet: the order of its clauses, what a buffer holds afterwards, and that sheets with the same
-//! variables, costs and set of clauses, and no others, are written alike.
+//! variables, costs and set of clauses, and no others, are written alike. The sheets here have no mark.
 
 mod common;
 
+use common::writer::*;
 use common::*;
 use reference::brute::least_cost;
-use reference::{judge, sheet_is_valid, write_sheet, Written};
+use reference::{judge, sheet_is_valid, write_sheet};
 use std::collections::{BTreeMap, BTreeSet};
-
-/// The answer where this many bytes were written.
-fn written(length: usize) -> Written {
-    Written {
-        number: 0,
-        place: 0,
-        length: length as u64,
-    }
-}
-
-/// The answer where nothing was.
-fn not_written(number: u32, place: u64) -> Written {
-    Written {
-        number,
-        place,
-        length: 0,
-    }
-}
-
-/// A buffer before it is lent. Every byte is above what a small sheet has there, and its neighbours differ from it.
-fn buffer(length: usize) -> Vec<u8> {
-    (0..length).map(|at| 0x80 | at as u8).collect()
-}
-
-/// The sheet as it is written. A buffer of its own length is always enough.
-fn write(sheet: &[u8]) -> Vec<u8> {
-    let mut out = buffer(sheet.len());
-    let answer = write_sheet(sheet, &mut out);
-    let length = answer.length as usize;
-    assert_eq!(answer, written(length));
-    assert_eq!(out[length..], buffer(sheet.len())[length..]);
-    out.truncate(length);
-    out
-}
-
-/// The sheet is refused with this, whatever the buffer, which stays.
-fn assert_refused(sheet: &[u8], number: u32, place: u64) {
-    for length in [0, 1, sheet.len(), sheet.len() + 100] {
-        let mut out = buffer(length);
-        assert_eq!(write_sheet(sheet, &mut out), not_written(number, place));
-        assert_eq!(out, buffer(length));
-    }
-}
 
 /// These clauses are in order and each is there once. They are written like this wherever the list begins, from its
 /// end, and with all of them there again.

@@ -9,6 +9,7 @@ mod forms;
 mod heads;
 mod independence;
 mod linear;
+mod losses;
 mod order;
 mod pairs;
 mod plans;
@@ -85,8 +86,9 @@ impl Damage {
 }
 
 /// Every fault with an aim, in groups.
-pub const AIMED: [&[Damage]; 16] = [
+pub const AIMED: [&[Damage]; 17] = [
     heads::HEADS,
+    LOSSES,
     pairs::PAIRS,
     forms::FORMS,
     plans::PLANS,
@@ -104,7 +106,10 @@ pub const AIMED: [&[Damage]; 16] = [
     linear::records::RECORDS,
 ];
 
-/// The same, one by one.
+/// Those that have to do with standing losses.
+pub const LOSSES: &[Damage] = losses::LOSSES;
+
+/// All of them, one by one.
 pub fn all_aimed() -> impl Iterator<Item = &'static Damage> {
     AIMED.into_iter().flatten()
 }

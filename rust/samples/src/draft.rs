@@ -1,6 +1,6 @@
 //! Both files taken apart, so that a part can be changed and the pairs written anew around it.
 
-use planner::format::{record_from, sheet_from, PAIR, RECORD_HEAD, STEP_COUNT, STEP_HEAD};
+use planner::format::{record_from, sheet_from, MARK, PAIR, RECORD_HEAD, STEP_COUNT, STEP_HEAD};
 use planner::Problem;
 
 /// The bytes of both files.
@@ -13,6 +13,8 @@ pub struct Files {
 /// The parts of both files, without counts, offsets and lengths.
 #[derive(Clone, Debug)]
 pub struct Draft {
+    /// The standing loss of a marked sheet; a sheet without a mark has none.
+    pub loss: Option<u32>,
     pub costs: Vec<u32>,
     pub clauses: Vec<Vec<u8>>,
     pub claim: u64,
@@ -30,6 +32,44 @@ pub struct Body {
     pub tail: Vec<u8>,
 }
 
+/// What the first bytes of a sheet tell.
+#[derive(Clone, Copy, Debug, PartialEq, Eq)]
+pub struct Head {
+    pub is_marked: bool,
+    pub variables: usize,
+    pub clauses: usize,
+}
+
+impl Head {
+    /// Nothing of a sheet that is too short for it.
+    pub fn read(sheet: &[u8]) -> Option<Head> {
+        let [field, clauses] = [read_u16(sheet, 0)?, read_u16(sheet, 2)?];
+        Some(Head {
+            is_marked: field & MARK != 0,
+            variables: usize::from(field & !MARK),
+            clauses: clauses.into(),
+        })
+    }
+
+    /// Where the costs end, and the loss of a marked sheet begins.
+    pub fn costs_end(self) -> usize {
+        4 + 4 * self.variables
+    }
+
+    /// Where the pairs begin.
+    pub fn pairs_start(self) -> usize {
+        self.costs_end() + if self.is_marked { LOSS } else { 0 }
+    }
+
+    /// The loss of a marked sheet; nothing of another, and where it is cut short.
+    pub fn loss(self, sheet: &[u8]) -> Option<u32> {
+        read_u32(sheet, self.costs_end()).filter(|_| self.is_marked)
+    }
+}
+
+/// How many bytes a loss has.
+pub const LOSS: usize = 4;
+
 /// Where a file keeps its pairs.
 #[derive(Clone, Copy, Debug)]
 pub struct Table {
@@ -40,10 +80,10 @@ pub struct Table {
 impl Table {
     /// Where a sheet keeps them, by its counts.
     pub fn of_sheet(sheet: &[u8]) -> Option<Table> {
-        let [variables, count] = [read_u16(sheet, 0)?, read_u16(sheet, 2)?].map(usize::from);
+        let head = Head::read(sheet)?;
         Some(Table {
-            start: 4 + 4 * variables,
-            count,
+            start: head.pairs_start(),
+            count: head.clauses,
         })
     }
 
@@ -104,17 +144,28 @@ pub fn code_bytes(codes: &[u16]) -> Vec<u8> {
     codes.iter().flat_map(|code| code.to_le_bytes()).collect()
 }
 
-/// A sheet's costs and clause bodies, by its counts and pairs; nothing where these reach past its end.
-pub fn sheet_parts(sheet: &[u8]) -> Option<(Vec<u32>, Vec<Vec<u8>>)> {
-    let table = Table::of_sheet(sheet)?;
-    let costs = sheet.get(4..table.start)?.chunks_exact(4);
+/// What a sheet is made of.
+pub struct Parts {
+    pub loss: Option<u32>,
+    pub costs: Vec<u32>,
+    pub clauses: Vec<Vec<u8>>,
+}
+
+/// The parts of a sheet, by its mark, counts and pairs; nothing where these reach past its end.
+pub fn sheet_parts(sheet: &[u8]) -> Option<Parts> {
+    let (head, table) = (Head::read(sheet)?, Table::of_sheet(sheet)?);
+    let costs = sheet.get(..table.start)?[4..head.costs_end()].chunks_exact(4);
     let cost = |part: &[u8]| u32::from_le_bytes([part[0], part[1], part[2], part[3]]);
-    Some((costs.map(cost).collect(), table.bodies(sheet)?))
+    Some(Parts {
+        loss: head.loss(sheet),
+        costs: costs.map(cost).collect(),
+        clauses: table.bodies(sheet)?,
+    })
 }
 
 impl Files {
     pub fn variables(&self) -> Option<usize> {
-        read_u16(&self.sheet, 0).map(usize::from)
+        Head::read(&self.sheet).map(|head| head.variables)
     }
 
     pub fn sheet_table(&self) -> Option<Table> {
@@ -139,9 +190,14 @@ impl Draft {
 
     /// Takes both files apart, by their counts and pairs; nothing where these reach past an end.
     pub fn read(files: &Files) -> Option<Draft> {
-        let (costs, clauses) = sheet_parts(&files.sheet)?;
+        let Parts {
+            loss,
+            costs,
+            clauses,
+        } = sheet_parts(&files.sheet)?;
         let record = files.record_table()?;
         Some(Draft {
+            loss,
             costs,
             clauses,
             claim: read_u64(&files.record, 0)?,
@@ -152,13 +208,18 @@ impl Draft {
 
     /// Both files, with counts and pairs that fit the parts.
     pub fn files(&self) -> Files {
-        let sheet = sheet_from(&self.costs, &self.clauses.iter().collect());
+        let sheet = sheet_from(self.loss, &self.costs, &self.clauses.iter().collect());
         let record = record_from(self.claim, &self.assignment, &self.steps.iter().collect());
         Files { sheet, record }
     }
 
     pub fn variables(&self) -> usize {
         self.costs.len()
+    }
+
+    /// What every assignment costs, whatever is true in it.
+    pub fn standing_loss(&self) -> u64 {
+        self.loss.map_or(0, u64::from)
     }
 
     /// The literals of a clause numbered from 1.
@@ -194,8 +255,8 @@ impl Draft {
 
     pub fn assignment_cost(&self) -> u64 {
         let paid = (1..=self.variables()).filter(|variable| self.value(*variable));
-        paid.map(|variable| u64::from(self.costs[variable - 1]))
-            .sum()
+        let paid = paid.map(|variable| u64::from(self.costs[variable - 1]));
+        self.standing_loss() + paid.sum::<u64>()
     }
 
     /// The assignment makes a literal true.
@@ -275,7 +336,8 @@ impl Body {
     pub fn cost(draft: &Draft, mut literals: Vec<u16>) -> Body {
         literals.sort_unstable();
         let negative = literals.iter().filter(|code| **code % 2 == 1);
-        let bound = negative.map(|code| draft.cost_of(*code)).sum();
+        let paid = negative.map(|code| draft.cost_of(*code));
+        let bound = draft.standing_loss() + paid.sum::<u64>();
         Body {
             kind: 2,
             spare: 0,

@@ -12,8 +12,8 @@ pub struct Example {
     pub line: String,
 }
 
-/// A1 to A8, B1, B2, C1 to C4, D and E of document 01, W1, W2, S1, R1 and R2.
-pub const COUNT: usize = 21;
+/// A1 to A8, B1, B2, C1 to C4, D and E of document 01, W1, W2, S1, R1, R2, L1 and L2.
+pub const COUNT: usize = 23;
 
 /// Every example; there are as many as there have to be.
 pub fn examples() -> [Example; COUNT] {

@@ -55,14 +55,20 @@ pub fn stream(seed: u64) -> impl Iterator<Item = Sample> {
     }
 }
 
-/// An accepted sample whose record has about `size` bytes.
+/// An accepted sample whose record has about `size` bytes. The sheet is unmarked, here and where no loss is asked for, and the
+/// same seed gives what it gave before there were losses: so times that were measured on such samples can be compared.
 pub fn long(seed: u64, size: usize, mix: Mix) -> Sample {
-    let mut random = Random::new(seed);
-    let problem = if matches!(mix, Mix::Long | Mix::LongOf(_)) {
-        sheets::lengthy(&mut random)
-    } else {
-        sheets::roomy(&mut random)
+    long_with_loss(None, seed, size, mix)
+}
+
+/// The same with a standing loss, where there is to be one.
+pub fn long_with_loss(loss: Option<u32>, seed: u64, size: usize, mix: Mix) -> Sample {
+    let shape = match mix {
+        Mix::Long | Mix::LongOf(_) => sheets::LENGTHY,
+        Mix::Mixed | Mix::Resolution => sheets::ROOMY,
     };
+    let mut problem = sheets::problem(&shape, &mut Random::new(seed));
+    problem.loss = loss;
     let plan = search::plan(&problem);
     let record = long::record(&problem, &plan, seed, size, mix);
     Sample {
@@ -76,7 +82,8 @@ pub fn long(seed: u64, size: usize, mix: Mix) -> Sample {
 /// such a step may cite all of it.
 pub fn long_with_weights(seed: u64, size: usize) -> Sample {
     let mut random = Random::new(seed);
-    let problem = sheets::middle(&mut random);
+    let shape = sheets::middle_shape(&mut random);
+    let problem = sheets::problem(&shape, &mut random);
     let plan = search::plan(&problem);
     let record = long::record(&problem, &plan, seed, size * 2 / 5, Mix::Mixed);
     let mut draft = drafted(&problem, &record);
@@ -87,7 +94,7 @@ pub fn long_with_weights(seed: u64, size: usize) -> Sample {
 /// A long sample whose resolutions were made wider than they have to be, by which the record has grown.
 pub fn long_widened(seed: u64, size: usize, mix: Mix) -> Sample {
     let mut random = Random::new(seed);
-    let problem = sheets::roomy(&mut random);
+    let problem = sheets::problem(&sheets::ROOMY, &mut random);
     let plan = search::plan(&problem);
     let mut draft = drafted(&problem, &long::record(&problem, &plan, seed, size, mix));
     widening::records::widen(&mut draft, &mut random);

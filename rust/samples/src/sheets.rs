@@ -1,4 +1,4 @@
-//! Random problems of many shapes.
+//! Random problems of many shapes, half of them with a standing loss.
 
 use crate::random::Random;
 use planner::{Literal, Problem, MOST_VARIABLES};
@@ -13,6 +13,8 @@ pub enum Costs {
     Any,
     /// So large that two of them leave 32 bits.
     Large,
+    /// As large as can be.
+    Largest,
 }
 
 #[derive(Clone, Copy, Debug)]
@@ -26,12 +28,17 @@ pub struct Shape {
     pub costs: Costs,
 }
 
+/// A problem without a loss.
 pub fn problem(shape: &Shape, random: &mut Random) -> Problem {
     let costs = (0..shape.variables)
         .map(|_| cost(shape.costs, random))
         .collect();
     let clauses = (0..shape.clauses).map(|_| clause(shape, random)).collect();
-    Problem { costs, clauses }
+    Problem {
+        loss: None,
+        costs,
+        clauses,
+    }
 }
 
 fn cost(costs: Costs, random: &mut Random) -> u32 {
@@ -43,6 +50,7 @@ fn cost(costs: Costs, random: &mut Random) -> u32 {
         (Costs::Any, 1) => u32::MAX,
         (Costs::Any, _) => any,
         (Costs::Large, place) => u32::MAX - place as u32,
+        (Costs::Largest, _) => u32::MAX,
     }
 }
 
@@ -73,6 +81,25 @@ fn some_costs(random: &mut Random) -> Costs {
     ][random.below(5)]
 }
 
+/// No loss in half of the cases; else 0, which is marked and costs nothing, a small one, any, or the largest.
+pub fn some_loss(random: &mut Random) -> Option<u32> {
+    let any = random.next_u64() as u32;
+    match random.below(8) {
+        0..=3 => None,
+        4 => Some(0),
+        5 => Some(1 + any % 9),
+        6 => Some(any),
+        _ => Some(u32::MAX),
+    }
+}
+
+/// A problem of the shape, and a loss or none. It is drawn last, so that the rest is what it would be without.
+fn with_some_loss(shape: &Shape, random: &mut Random) -> Problem {
+    let mut problem = problem(shape, random);
+    problem.loss = some_loss(random);
+    problem
+}
+
 /// 1 to 12 variables, now and then up to 16; some cannot be satisfied, some hold empty clauses.
 pub fn small(random: &mut Random) -> Problem {
     let variables = if random.percent(4) {
@@ -93,45 +120,47 @@ pub fn small(random: &mut Random) -> Problem {
     let longest = random.between(shortest.max(2), 5);
     let positive = [30, 50, 60, 70, 85, 100][random.below(6)];
     let costs = some_costs(random);
-    problem(
-        &Shape {
-            variables,
-            clauses,
-            shortest,
-            longest,
-            positive,
-            costs,
-        },
-        random,
-    )
+    let shape = Shape {
+        variables,
+        clauses,
+        shortest,
+        longest,
+        positive,
+        costs,
+    };
+    with_some_loss(&shape, random)
 }
 
 /// 17 to 40 variables with enough clauses to need a search.
 pub fn middle(random: &mut Random) -> Problem {
+    let shape = middle_shape(random);
+    with_some_loss(&shape, random)
+}
+
+/// The shape of such a problem.
+pub fn middle_shape(random: &mut Random) -> Shape {
     let variables = random.between(17, 40);
     let clauses = random.between(variables, 3 * variables);
     let positive = random.between(50, 80);
     let costs = some_costs(random);
-    problem(
-        &Shape {
-            variables,
-            clauses,
-            shortest: 2,
-            longest: 4,
-            positive,
-            costs,
-        },
-        random,
-    )
+    Shape {
+        variables,
+        clauses,
+        shortest: 2,
+        longest: 4,
+        positive,
+        costs,
+    }
 }
 
-/// Up to as many variables as a sheet may have, and mostly that many, with few clauses.
+/// Up to as many variables as a sheet may have, and mostly that many, with few clauses. Now and then everything costs as much
+/// as it may.
 pub fn wide(random: &mut Random) -> Problem {
     let most = MOST_VARIABLES;
     let variables = [most, most, most - 1, random.between(41, most - 2)][random.below(4)];
     let clauses = random.between(10, 60);
     let costs = some_costs(random);
-    let shape = Shape {
+    let mut shape = Shape {
         variables,
         clauses,
         shortest: 2,
@@ -139,38 +168,32 @@ pub fn wide(random: &mut Random) -> Problem {
         positive: 50,
         costs,
     };
-    problem(&shape, random)
+    if random.percent(20) {
+        (shape.variables, shape.costs) = (most, Costs::Largest);
+        let mut largest = problem(&shape, random);
+        largest.loss = Some(u32::MAX);
+        return largest;
+    }
+    with_some_loss(&shape, random)
 }
 
-/// The problem under the long records: long clauses over many variables, soon settled.
-pub fn roomy(random: &mut Random) -> Problem {
-    let (variables, clauses, costs) = (200, 150, Costs::Any);
-    problem(
-        &Shape {
-            variables,
-            clauses,
-            shortest: 3,
-            longest: 6,
-            positive: 50,
-            costs,
-        },
-        random,
-    )
-}
+/// The shape under the long records: long clauses over many variables, soon settled.
+pub const ROOMY: Shape = Shape {
+    variables: 200,
+    clauses: 150,
+    shortest: 3,
+    longest: 6,
+    positive: 50,
+    costs: Costs::Any,
+};
 
-/// The problem under the records of long steps: clauses of 20 to 40 literals, over so many variables that several of them can
-/// be independent.
-pub fn lengthy(random: &mut Random) -> Problem {
-    let (variables, clauses, costs) = (1000, 200, Costs::Any);
-    problem(
-        &Shape {
-            variables,
-            clauses,
-            shortest: 20,
-            longest: 40,
-            positive: 80,
-            costs,
-        },
-        random,
-    )
-}
+/// The shape under the records of long steps: clauses of 20 to 40 literals, over so many variables that several of them can be
+/// independent.
+pub const LENGTHY: Shape = Shape {
+    variables: 1_000,
+    clauses: 200,
+    shortest: 20,
+    longest: 40,
+    positive: 80,
+    costs: Costs::Any,
+};

@@ -126,9 +126,11 @@ impl Share {
     }
 }
 
-/// What a total is made of.
+/// What a total is made of, and what comes to its bound.
 #[derive(Clone, Debug)]
 pub struct Sums {
+    /// The standing loss, which is no part of the total.
+    pub loss: u64,
     /// Not 0.
     pub divisor: i128,
     /// The weights, and the weights times how many negative literals their clauses have.
@@ -145,6 +147,7 @@ impl Sums {
             return None;
         }
         let mut sums = Sums {
+            loss: draft.standing_loss(),
             divisor: i128::from(weights.divisor),
             weights: 0,
             negatives: 0,
@@ -177,11 +180,16 @@ impl Sums {
     }
 
     pub fn bound(&self) -> u64 {
-        rounded_up(self.total(), self.divisor)
+        self.bound_of(self.total())
+    }
+
+    /// The bound if this were the total: the loss comes to it once it is rounded.
+    pub fn bound_of(&self, total: i128) -> u64 {
+        rounded_up(total, self.divisor) + self.loss
     }
 }
 
-/// The least bound that is no less than the total divided; the divisor is not 0.
+/// The least number that is no less than the total divided; the divisor is not 0.
 pub fn rounded_up(total: i128, divisor: i128) -> u64 {
     let least = if total > 0 {
         (total + divisor - 1) / divisor

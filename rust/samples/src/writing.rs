@@ -1,12 +1,13 @@
-//! Sheets for the writer. A sheet says which costs there are and which set of clauses, and may list these clauses in any order
-//! and more than once. A family has sheets that all say the same, sheets that say something else by little, and damaged ones.
+//! Sheets for the writer. A sheet says which costs there are, which standing loss and which set of clauses. It may list these
+//! clauses in any order and more than once, and have a mark where the loss is 0. A family has sheets that all say the same,
+//! sheets that say something else by little, and damaged ones.
 
 pub mod changes;
 pub mod contents;
 pub mod listings;
 
 use crate::damage::{self, Aim, Damage};
-use crate::draft::{assignment_length, code_bytes, codes, sheet_parts, Draft};
+use crate::draft::{assignment_length, code_bytes, codes, sheet_parts, Draft, Parts};
 use crate::random::Random;
 use changes::CHANGES;
 use listings::LISTINGS;
@@ -17,6 +18,8 @@ use std::collections::BTreeSet;
 /// What a sheet says. Two sheets are to be written as the same bytes exactly where this is the same.
 #[derive(Clone, Debug, PartialEq, Eq, PartialOrd, Ord)]
 pub struct Content {
+    /// 0 where there is no mark.
+    pub loss: u32,
     pub costs: Vec<u32>,
     /// Each by its codes.
     pub clauses: BTreeSet<Vec<u16>>,
@@ -25,6 +28,8 @@ pub struct Content {
 /// A sheet taken apart: what it says, in the way that it does.
 #[derive(Clone, Debug, PartialEq, Eq)]
 pub struct Listing {
+    /// The loss of a marked sheet.
+    pub loss: Option<u32>,
     pub costs: Vec<u32>,
     pub clauses: Vec<Vec<u16>>,
 }
@@ -52,6 +57,7 @@ impl Content {
     pub fn of(problem: &Problem) -> Content {
         let clause = |clause: &Vec<Literal>| clause.iter().map(|literal| literal.code()).collect();
         Content {
+            loss: problem.loss.unwrap_or(0),
             costs: problem.costs.clone(),
             clauses: problem.clauses.iter().map(clause).collect(),
         }
@@ -66,23 +72,41 @@ impl Content {
         self.clauses.iter().cloned().collect()
     }
 
-    /// The sheet that lists these clauses.
+    /// The sheet that lists these clauses, with a mark where it needs one.
     pub fn listed(&self, clauses: Vec<Vec<u16>>) -> Listing {
-        let costs = self.costs.clone();
-        Listing { costs, clauses }
+        Listing {
+            loss: Some(self.loss).filter(|loss| *loss > 0),
+            costs: self.costs.clone(),
+            clauses,
+        }
     }
 }
 
 impl Listing {
     /// Takes a sheet apart, by its counts and pairs; nothing where these reach past its end.
     pub fn read(sheet: &[u8]) -> Option<Listing> {
-        let (costs, bodies) = sheet_parts(sheet)?;
-        let clauses = bodies.iter().map(|body| codes(body)).collect();
-        Some(Listing { costs, clauses })
+        let Parts {
+            loss,
+            costs,
+            clauses,
+        } = sheet_parts(sheet)?;
+        let clauses = clauses.iter().map(|body| codes(body)).collect();
+        Some(Listing {
+            loss,
+            costs,
+            clauses,
+        })
+    }
+
+    /// The same with a mark, which it may have though it needs none.
+    pub fn marked(self) -> Listing {
+        let loss = self.loss.or(Some(0));
+        Listing { loss, ..self }
     }
 
     pub fn content(&self) -> Content {
         Content {
+            loss: self.loss.unwrap_or(0),
             costs: self.costs.clone(),
             clauses: self.clauses.iter().cloned().collect(),
         }
@@ -93,7 +117,7 @@ impl Listing {
     }
 
     pub fn sheet(&self) -> Vec<u8> {
-        sheet_from(&self.costs, &self.bodies().collect())
+        sheet_from(self.loss, &self.costs, &self.bodies().collect())
     }
 
     /// The problem of a sheet in form.
@@ -101,6 +125,7 @@ impl Listing {
         let literal = |code: &u16| Literal::new(usize::from(code / 2), code.is_multiple_of(2));
         let clause = |clause: &Vec<u16>| clause.iter().map(literal).collect();
         Problem {
+            loss: self.loss,
             costs: self.costs.clone(),
             clauses: self.clauses.iter().map(clause).collect(),
         }
@@ -109,6 +134,7 @@ impl Listing {
     /// The sheet with a record of nothing, so that what damages files can damage it.
     fn draft(&self) -> Draft {
         Draft {
+            loss: self.loss,
             costs: self.costs.clone(),
             clauses: self.bodies().collect(),
             claim: 0,
@@ -141,14 +167,20 @@ fn case(listing: &Listing, what: &'static str) -> Case {
     Case { sheet, what }
 }
 
-/// The content listed in every way. To fill a sheet up takes it to thousands of clauses, which is done now and then.
+/// The content listed in every way, and where its loss is 0, sorted with and without a mark. To fill a sheet up takes it to
+/// thousands of clauses, which is done now and then.
 fn same(content: &Content, random: &mut Random) -> Vec<Case> {
     let sorted = content.sorted();
     let every = LISTINGS.iter().map(|(what, list)| {
         let listed = content.listed(list(&sorted, random));
-        case(&listed, what)
+        case(&perhaps_marked(listed, random), what)
     });
     let mut same: Vec<Case> = every.collect();
+    if content.loss == 0 {
+        let listed = content.listed(sorted.clone());
+        same.push(case(&listed, "without a mark"));
+        same.push(case(&listed.marked(), "marked with a loss of 0"));
+    }
     if content.variables() <= 40 && random.percent(2) {
         let listed = content.listed(listings::filled_up(&sorted, random));
         same.push(case(&listed, "filled up"));
@@ -156,10 +188,19 @@ fn same(content: &Content, random: &mut Random) -> Vec<Case> {
     same
 }
 
+/// A mark that is not needed comes now and then.
+fn perhaps_marked(listing: Listing, random: &mut Random) -> Listing {
+    match random.percent(30) {
+        true => listing.marked(),
+        false => listing,
+    }
+}
+
 /// The content in one of the ways.
 fn somehow(content: &Content, random: &mut Random) -> Listing {
     let (_, list) = LISTINGS[random.below(LISTINGS.len())];
-    content.listed(list(&content.sorted(), random))
+    let listed = content.listed(list(&content.sorted(), random));
+    perhaps_marked(listed, random)
 }
 
 fn others(content: &Content, random: &mut Random) -> Vec<Case> {

@@ -63,12 +63,14 @@ const SAID: [(&str, Said); 11] = [
     ("within dearer by one", |_, _, gap| gap == 1),
     ("within a gap over 32 bits", |_, _, gap| gap > 1 << 32),
     ("within cost step after the close", |_, after, gap| {
-        gap == after.claim && after.steps.len() > 1
+        gap == after.claim - after.standing_loss() && after.steps.len() > 1
     }),
     ("within record cut short", |before, after, _| {
         after.steps.len() < before.steps.len()
     }),
-    ("within cost step alone", |_, after, gap| gap == after.claim),
+    ("within cost step alone", |_, after, gap| {
+        gap == after.claim - after.standing_loss()
+    }),
     ("within cost step alone, one below the claim", one_of_one),
     (
         "within independent set alone, one below the claim",
@@ -256,6 +258,7 @@ fn the_example_of_a_search_that_was_stopped() {
         &[4, 7, 10, 13],
     ];
     let mut draft = Draft {
+        loss: None,
         costs: (1..=6).collect(),
         clauses: clauses.map(code_bytes).into(),
         claim: 11,

@@ -57,7 +57,8 @@ fn unsettled(step: &Body, clause: &[u16]) -> Vec<u16> {
 fn all_faults(draft: &Draft, step: &Body) -> Faults {
     let (mut found, mut before) = (Vec::new(), Vec::new());
     let paid = step.literals.iter().filter(|code| **code % 2 == 1);
-    let mut bound: u64 = paid.map(|code| draft.cost_of(*code)).sum();
+    let paid = paid.map(|code| draft.cost_of(*code));
+    let mut bound = draft.standing_loss() + paid.sum::<u64>();
     for number in step.cited() {
         let clause = draft.clause(number).unwrap();
         found.push(faults(step, &clause, &before));

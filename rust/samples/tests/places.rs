@@ -41,6 +41,12 @@ fn first_unresolved(draft: &Draft) -> u64 {
     found.unwrap().0 as u64
 }
 
+/// The first step whose bound has the standing loss in it: of kind 2, 3 or 5.
+fn first_with_loss(draft: &Draft) -> u64 {
+    let mut steps = draft.steps.iter();
+    steps.position(|step| [2, 3, 5].contains(&step[0])).unwrap() as u64 + 1
+}
+
 /// Nothing is told before such a fault, and it always meets its aim: it is made in a step that was good, by 14, 16 to 18 or a
 /// number of document 02, or in a step of kind 4 or 5, or at the close. Nor is anything told of a change that leaves no fault
 /// behind.
@@ -71,6 +77,8 @@ fn expected(fault: &Damage, before: &Draft, after: &Draft, files: &Files) -> Opt
         (19, _) => Some(after.steps.len() as u64),
         // The fault may be that of a step that was not changed, when one that it cites was.
         (17 | 18, Way::Draft(_)) => Some(first_unresolved(after)),
+        // And a loss is in the bounds of all such steps, though none of them was changed.
+        (13 | 15 | 24, Way::Draft(_)) => Some(first_with_loss(after)),
         (_, Way::Step(..) | Way::Bytes(_) | Way::StepList(_)) => changed_step(),
         _ if is_certain(fault) => changed_step(),
         _ => None,

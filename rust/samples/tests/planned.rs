@@ -85,6 +85,7 @@ fn eight_clauses_of_the_source_document() {
         .map(|clause| clause.iter().map(read).collect())
         .collect();
     let problem = Problem {
+        loss: None,
         costs: (1..=6).collect(),
         clauses,
     };

@@ -3,7 +3,7 @@
 
 use reference::brute::{confirms, confirms_within, least_cost};
 use reference::{Answer, Verdict};
-use samples::draft::read_u32;
+use samples::draft::{read_u32, Head};
 use samples::outcome::{Outcome, Tally};
 use samples::{damage, stream, widening, Sample, VALID, WIDENED};
 use std::collections::BTreeMap;
@@ -12,11 +12,15 @@ const SEED: u64 = 1;
 const SAMPLES: usize = 40_000;
 
 /// How many variables brute force may take on.
-const FEW: u16 = 16;
+const FEW: usize = 16;
+
+fn variables(sheet: &[u8]) -> usize {
+    Head::read(sheet).expect("a sheet's head").variables
+}
 
 /// Whether brute force was asked what it says of an answer that is no refusal.
 fn confirmed(sample: &Sample, answer: &Answer) -> bool {
-    if answer.refuses() || u16::from_le_bytes([sample.sheet[0], sample.sheet[1]]) > FEW {
+    if answer.refuses() || variables(&sample.sheet) > FEW {
         return false;
     }
     let (sheet, record) = (&sample.sheet, &sample.record);
@@ -172,8 +176,7 @@ fn shown_literals_are_those_of_the_step() {
         let answer = reference::judge(sheet, record);
         within += usize::from(answer.verdict() == Verdict::Within && answer.step_count > 1);
         for step in 1..=answer.step_count {
-            let variables = usize::from(u16::from_le_bytes([sheet[0], sheet[1]]));
-            let pair = 12 + variables.div_ceil(8) + 8 * (step as usize - 1);
+            let pair = 12 + variables(sheet).div_ceil(8) + 8 * (step as usize - 1);
             let offset = read_u32(record, pair).unwrap() as usize;
             let count = usize::from(u16::from_le_bytes([record[offset + 2], record[offset + 3]]));
             let literals = &record[offset + 12..offset + 12 + 2 * count];

@@ -4,8 +4,8 @@
 mod common;
 
 use common::{
-    assert_each_met, changed_steps, cost, count_seen, first_difference, is_entailed, is_true,
-    judged, settled, some_draft, FEW,
+    assert_each_met, changed_steps, count_seen, first_difference, is_entailed, is_true, judged,
+    paid, settled, some_draft, FEW,
 };
 use planner::search;
 use samples::damage::{self, Way};
@@ -17,7 +17,7 @@ use samples::weights::steps::is_weighted;
 use samples::weights::{branch, largest, sums, Sums, Weights, DIVISOR, ENTRY, KIND};
 use std::collections::BTreeSet;
 
-/// A total as 001 has it: the cost times the divisor, less each weight times the true literals that its clause has beyond one,
+/// A total as 001 has it: what is paid times the divisor, less each weight times the true literals that its clause has beyond one,
 /// where that is least among the assignments that make the step's literals false.
 fn total_by_trying(draft: &Draft, step: &Body, weights: &Weights) -> i128 {
     let mut entries = Vec::new();
@@ -32,16 +32,16 @@ fn total_by_trying(draft: &Draft, step: &Body, weights: &Weights) -> i128 {
         let parts = entries
             .iter()
             .map(|(clause, weight)| weight * beyond_one(clause, assignment));
-        i128::from(weights.divisor) * cost(draft, assignment) - parts.sum::<i128>()
+        i128::from(weights.divisor) * paid(draft, assignment) - parts.sum::<i128>()
     };
     settled(draft, step).map(less).min().unwrap()
 }
 
-/// The bound's only place: as high as the total asks, and no higher, from 0 on.
-fn is_bound(bound: u64, total: i128, divisor: u16) -> bool {
+/// The bound's only place: above the loss as high as the total asks, and no higher, from 0 on.
+fn is_bound(draft: &Draft, bound: u64, total: i128, divisor: u16) -> bool {
     let reached = |bound: i128| total <= bound * i128::from(divisor);
-    let bound = i128::from(bound);
-    reached(bound) && (bound == 0 || !reached(bound - 1))
+    let bound = i128::from(bound) - i128::from(draft.loss.unwrap_or(0));
+    bound >= 0 && reached(bound) && (bound == 0 || !reached(bound - 1))
 }
 
 fn weighted(draft: &Draft) -> Vec<Body> {
@@ -63,7 +63,7 @@ fn bounds_are_those_of_every_assignment() {
             let total = total_by_trying(&draft, &step, &weights);
             assert_eq!(sums(&draft, &step).unwrap().total(), total);
             assert!(
-                is_bound(step.bound, total, weights.divisor),
+                is_bound(&draft, step.bound, total, weights.divisor),
                 "{step:?} {draft:?}"
             );
             assert!(is_entailed(&draft, &step), "{step:?} {draft:?}");
@@ -108,7 +108,7 @@ impl Seen<'_> {
 /// What a step may have, and how it is seen.
 type Feature = (&'static str, fn(&Seen) -> bool);
 
-const FEATURES: [Feature; 25] = [
+const FEATURES: [Feature; 29] = [
     ("true, remainder above 0", |s| s.some(Some(true), 1)),
     ("true, remainder below 0", |s| s.some(Some(true), -1)),
     ("false, remainder above 0", |s| s.some(Some(false), 1)),
@@ -145,6 +145,14 @@ const FEATURES: [Feature; 25] = [
     }),
     ("last step", |s| {
         Body::read(s.draft.steps.last().unwrap()).unwrap().kind == KIND
+    }),
+    ("loss of 0", |s| s.draft.loss == Some(0)),
+    ("largest loss", |s| s.draft.loss == Some(u32::MAX)),
+    ("loss and rounded up", |s| {
+        s.sums.loss > 0 && s.total().0 > 0 && s.total().1 > 0
+    }),
+    ("loss and total below 0", |s| {
+        s.sums.loss > 0 && s.total().0 < 0
     }),
 ];
 
@@ -193,6 +201,7 @@ fn certificates_of_weights_are_accepted() {
 /// The draft of a plan of examples/, with one step.
 fn one_step(costs: &[u32], clauses: &[&[u16]], plan: (u64, u8), step: (&[u16], Weights)) -> Draft {
     let mut draft = Draft {
+        loss: None,
         costs: costs.to_vec(),
         clauses: clauses.iter().map(|clause| code_bytes(clause)).collect(),
         claim: plan.0,
@@ -234,19 +243,27 @@ fn examples_with_weights() {
     }
 }
 
-/// The bounds of the first steps: 0, and 1,024 largest costs with what 4,096 largest weights add, divided by as much.
+/// The bounds of the first steps: 0, and 1,024 largest costs with what 4,096 largest weights add, divided by as much; and both
+/// again with the largest loss, which is the claim then.
 #[test]
 fn largest_sums_are_accepted() {
-    let wanted = [0, 1_024 * u64::from(u32::MAX) + 4_096];
+    let largest = u64::from(u32::MAX);
+    let above = 1_024 * largest + 4_096;
+    let wanted = [
+        (0, 0),
+        (above, 0),
+        (largest, largest),
+        (above + largest, largest),
+    ];
     for literals in [1, 4, 1_024] {
-        for (sample, wanted) in largest::samples(literals).iter().zip(wanted) {
+        for (sample, (wanted, claim)) in largest::samples(literals).iter().zip(wanted) {
             let first = read_u32(&sample.record, 12 + 128).unwrap() as usize;
             assert_eq!(read_u64(&sample.record, first + 4), Some(wanted));
             // The reference checker looks every variable up in every clause, however long.
             if literals == 4 {
                 let answer = reference::judge(&sample.sheet, &sample.record);
                 assert!(answer.accepts(), "{answer:?}");
-                assert_eq!((answer.cost, answer.step_count), (0, 2));
+                assert_eq!((answer.cost, answer.step_count), (claim, 2));
             }
         }
     }
@@ -263,7 +280,7 @@ fn all_faults(draft: &Draft, step: &Body) -> BTreeSet<u32> {
     let is_zero = divisor == [0, 0] || read.entries.iter().any(|entry| entry.1 == 0);
     let wrong = read.divisor > 0 && {
         let total = total_by_trying(draft, step, &read);
-        !is_bound(step.bound, total, read.divisor)
+        !is_bound(draft, step.bound, total, read.divisor)
     };
     let found = [
         (8, whole != rest.len()),

@@ -291,6 +291,7 @@ fn examples_with_wider_resolutions() {
 
 fn branched(fourth: Vec<u16>) -> Draft {
     let mut draft = Draft {
+        loss: None,
         costs: vec![3, 5, 2],
         clauses: [[2, 4], [2, 5]].map(|clause| code_bytes(&clause)).into(),
         claim: 3,

@@ -26,6 +26,7 @@ toldC codes cited number = told sheetC codes cited number
 sheetG : List ℕ
 sheetG =
     sheetOf
+    0
     (1 ∷ 1 ∷ 1 ∷ 1 ∷ 1 ∷ 1 ∷ [])
     (clause (positive 4 ∷ [])
     ∷ clause (positive 1 ∷ positive 2 ∷ [])

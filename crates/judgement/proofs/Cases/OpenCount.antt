@@ -12,7 +12,7 @@ use Rattle.judgement.proofs.Cases.Starred.{costStep}
 -- n variables that cost nothing and no clause, so that every assignment is a least one
 counted : ℕ → List ℕ → ℕ → Case
 counted n bits opens = record {
-  sheet = sheetOf (replicate n 0) [];
+  sheet = sheetOf 0 (replicate n 0) [];
   «record» = recordOf 0 bits (costStep [] 0 ∷ []);
   answer = accepted 0 opens 1;
 }

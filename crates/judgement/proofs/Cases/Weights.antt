@@ -64,7 +64,7 @@ bounded s codes d bound entries =
 -- sheet C has the costs 1 to 6 and the clauses {1, 3, 5}, {2, 4, 5, -6} and {-1, -2}; sheet H has the greatest cost, a clause without
 -- literals and the clause {1}
 sheetH : List ℕ
-sheetH = sheetOf (4294967295 ∷ []) ([] ∷ clause (positive 1 ∷ []) ∷ [])
+sheetH = sheetOf 0 (4294967295 ∷ []) ([] ∷ clause (positive 1 ∷ []) ∷ [])
 
 totals : List Case
 totals =
@@ -133,6 +133,7 @@ refusals =
 sheetV : List ℕ
 sheetV =
     sheetOf
+    0
     (1 ∷ 1 ∷ 1 ∷ [])
     (clause (positive 1 ∷ positive 2 ∷ []) ∷ clause (positive 1 ∷ positive 3 ∷ []) ∷ clause (positive 2 ∷ positive 3 ∷ []) ∷ [])
 

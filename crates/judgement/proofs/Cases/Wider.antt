@@ -22,7 +22,7 @@ resolved s x y b number place =
 
 -- four variables of costs 3, 5, 7 and 2, and no clause
 sheetG : List ℕ
-sheetG = sheetOf (3 ∷ 5 ∷ 7 ∷ 2 ∷ []) []
+sheetG = sheetOf 0 (3 ∷ 5 ∷ 7 ∷ 2 ∷ []) []
 
 -- {1, -2} of bound 5 and {-1, -3} of bound 10 on variable p; on 1 the resolvent is {-2, -3} of bound 5
 stating : List ℕ → ℕ → ℕ → ℕ → ℕ → Case

@@ -16,7 +16,7 @@ use Rattle.judgement.proofs.Cases.Starred.{clause, copyStep, costStep, 
 
 -- costs 4 and 3, and the clause that one of the two is true
 sheetT : List ℕ
-sheetT = sheetOf (4 ∷ 3 ∷ []) (clause (positive 1 ∷ positive 2 ∷ []) ∷ [])
+sheetT = sheetOf 0 (4 ∷ 3 ∷ []) (clause (positive 1 ∷ positive 2 ∷ []) ∷ [])
 
 -- one step of kind 3, without literals, that cites this clause; the least cost there is 3
 recordT : ℕ → ℕ → ℕ → List ℕ
@@ -24,7 +24,7 @@ recordT claimed byte bound = recordOf claimed (byte ∷ []) (independentStep [] 
 
 -- two variables of the greatest cost, and no clause
 sheetU : List ℕ
-sheetU = sheetOf (4294967295 ∷ 4294967295 ∷ []) []
+sheetU = sheetOf 0 (4294967295 ∷ 4294967295 ∷ []) []
 
 -- a step without literals and a weak bound before that one
 later : ℕ → ℕ → List ℕ

@@ -1,6 +1,6 @@
--- Kind 5: the total is the least, over the assignments that falsify the step's literals, of d times the cost and of each cited
--- clause its weight times 1 minus the number of its true literals. So the total, which is defined by remainders, is the best bound that
--- these weights give; and what a step of kind 5 states is entailed, since a model pays for the weights.
+-- Kind 5: the total is the least, over the assignments that falsify the step's literals, of d times what true variables cost and of
+-- each cited clause its weight times 1 minus the number of its true literals. So the total, which is defined by remainders, is the
+-- best bound that these weights give; and what a step of kind 5 states is entailed, since a model pays for the weights, and the loss.
 -- Assumes nothing.
 use Prim.Native.Nat.{ℕ, zero, suc, _+_, _-_, _*_, _/_, _%_, _≤_, _<_}
 use mathlib.Core.Path.{_≡_, refl, sym, ap, _∙_}
@@ -14,7 +14,7 @@ use lib.IntN.{ℤ, pos, negsuc, _-ℤ_, _*ℤ_}
 use lib.Signed.{_≤ℤ_}
 use borrow.Author.Tests.{eqb-true, eqb-false, lt-ltb, le-ltb}
 use Rattle.judgement.specs.Scan.{sumOf, one, countOf}
-use Rattle.judgement.specs.Meaning.{Assignment, positive, negative, variableOf, isPositive, literalTrue, cost, Satisfies, Falsifies, Entailed}
+use Rattle.judgement.specs.Meaning.{Assignment, positive, negative, variableOf, isPositive, literalTrue, trueCost, cost, Satisfies, Falsifies, Entailed}
 use Rattle.judgement.specs.Literals.{count, code, holds, mentions}
 use Rattle.judgement.specs.Sheet.{variables, clauses, costOf, problemOf}
 use Rattle.judgement.specs.Step.{bound, literals, stated, tail, divisor, entryCount, entryCites, weight}
@@ -132,9 +132,9 @@ entries-balanced s e α (suc q) lists =
 
 -- ---- what an assignment is weighed, and the total, as differences
 
--- d times the cost and the weights, minus the weights of the true literals
+-- d times what true variables cost and the weights, minus the weights of the true literals
 abbrev weighedUp : List ℕ → List ℕ → Assignment → ℕ
-weighedUp s e α = divisor e * cost (problemOf s) α + sumOf (weight e) (entryCount e)
+weighedUp s e α = divisor e * trueCost (problemOf s) α + sumOf (weight e) (entryCount e)
 
 abbrev weighedDown : List ℕ → List ℕ → Assignment → ℕ
 weighedDown s e α = sumOf (λ j. weight e j * trueLiterals α (entryClause s e j)) (entryCount e)
@@ -148,7 +148,7 @@ weighed-diff s e α =
     q = entryCount e
 
     x : ℕ
-    x = divisor e * cost (problemOf s) α
+    x = divisor e * trueCost (problemOf s) α
 
     entry : ℕ → ℤ
     entry j = pos (weight e j) *ℤ (pos 1 -ℤ pos (trueLiterals α (entryClause s e j)))
@@ -239,7 +239,7 @@ total-weighed : (s D e : List ℕ) (α : Assignment)
     → ((j : ℕ) → Among (entryCount e) j → LiteralList (variables s) (entryClause s e j))
     → totalUp s D e + weighedDown s e α + sumOf (lacked s D e α) (variables s)
     ≡ weighedUp s e α + totalDown s D e + sumOf (had s D e α) (variables s)
-unfolding cost
+unfolding trueCost
 total-weighed s D e α lists =
     let entries = entries-balanced s e α q lists in
     let scaled = true-times α (divisor e) (costOf s) n in
@@ -305,7 +305,7 @@ total-least s b valid list cites = record { reached = (best, cheapest-falsifies 
         at-most-diff (total s b) (weighed s e α) (totalUp s D e) (totalDown s D e) (weighedUp s e α) (weighedDown s e α)
         (total-diff s D e q) (weighed-diff s e α) (omega (arith, total-weighed s D e α lists, most))
 
--- ---- a model is weighed at most d times its cost, so that what a step of kind 5 states is entailed
+-- ---- a model is weighed at most d times what its true variables cost, so that what a step of kind 5 states is entailed
 
 -- a number counted once or more
 times-most : (y k : ℕ) → 1 ≤ k → y ≤ y * k
@@ -330,7 +330,7 @@ weights-paid s e α (suc q) each =
     omega (arith, earlier, last)
 
 pub linear-entailed : (s b : List ℕ) → ValidSheet s → Linear s b → Entailed (problemOf s) (stated b)
-unfolding total
+unfolding total cost
 linear-entailed s b valid linear α model falsified =
     let D = literals b in
     let e = tail b in
@@ -340,5 +340,7 @@ linear-entailed s b valid linear α model falsified =
     let paid = weights-paid s e α q (λ j w. model (entryCites e j) (cites j w .0) (cites j w .1)) in
     let most = sum-most (had s D e α) (lacked s D e α) n (λ v. variable-covered α D v (credit s e q v) (debit s e q v) falsified) in
     let same = total-weighed s D e α (λ j w. valid .lists (entryCites e j) (cites j w)) in
-    cover-diff (total s b) (totalUp s D e) (totalDown s D e) (divisor e) (bound b) (cost (problemOf s) α) (total-diff s D e q)
-    (omega (arith, linear .weighted .divides)) (linear .bound-is) (omega (arith, paid, most, same))
+    let (x, rounded, bound-is) = linear .bounded in
+    let covered = cover-diff (total s b) (totalUp s D e) (totalDown s D e) (divisor e) x (trueCost (problemOf s) α)
+    (total-diff s D e q) (omega (arith, linear .weighted .divides)) rounded (omega (arith, paid, most, same)) in
+    rw bound-is (omega (arith, covered))

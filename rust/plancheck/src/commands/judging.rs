@@ -2,6 +2,7 @@
 
 use super::{both, code, print, Outcome};
 use crate::args::Args;
+use crate::sheet::Sheet;
 use crate::{explain, files, stats};
 use std::io::Write;
 
@@ -30,12 +31,7 @@ pub(super) fn counted(args: &Args, out: &mut dyn Write) -> Outcome {
     let [copies, costs, independent, resolutions, weighted, unreadable] = stats.kinds;
     let mut lines = vec![
         proved::judge(&sheet, &record).line(),
-        format!(
-            "sheet: {} variables, {} clauses, {} bytes",
-            read.variables,
-            read.clauses.count(),
-            sheet.len()
-        ),
+        sheet_line(&read, sheet.len()),
         format!("record: {} bytes", record.len()),
         format!("steps: {} (copy {copies}, cost {costs}, independent {independent}, resolve {resolutions}, weighted {weighted})", laid_out.steps.count()),
         format!("literals in steps: {}", stats.literals),
@@ -49,4 +45,11 @@ pub(super) fn counted(args: &Args, out: &mut dyn Write) -> Outcome {
         lines.push(format!("bodies that are no step: {unreadable}"));
     }
     print(out, &(lines.join("\n") + "\n"))
+}
+
+fn sheet_line(sheet: &Sheet, bytes: usize) -> String {
+    let (variables, clauses) = (sheet.variables, sheet.clauses.count());
+    let loss = sheet.loss().map(|loss| format!(", loss {loss}"));
+    let loss = loss.unwrap_or_default();
+    format!("sheet: {variables} variables, {clauses} clauses{loss}, {bytes} bytes")
 }

@@ -68,9 +68,10 @@ pub(super) fn imported(args: &Args, out: &mut dyn Write) -> Outcome {
     files::valid_sheet(output, &bytes)?;
     files::write(output, &bytes)?;
     let (variables, clauses) = (problem.variables(), problem.clauses.len());
-    let output = output.display();
+    let loss = problem.loss.map(|loss| format!(", loss {loss}"));
+    let (output, loss) = (output.display(), loss.unwrap_or_default());
     print(
         out,
-        &format!("{output}: {variables} variables, {clauses} clauses\n"),
+        &format!("{output}: {variables} variables, {clauses} clauses{loss}\n"),
     )
 }

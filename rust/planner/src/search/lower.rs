@@ -66,11 +66,10 @@ pub fn independent_clauses(problem: &Problem, trail: &Trail) -> (Vec<u32>, u64) 
     (clauses, bound)
 }
 
-/// What the true variables cost.
+/// What the true variables cost, with the standing loss.
 pub fn paid(problem: &Problem, trail: &Trail) -> u64 {
-    true_variables(trail)
-        .map(|literal| problem.cost_of(literal))
-        .sum()
+    let paid = true_variables(trail).map(|literal| problem.cost_of(literal));
+    problem.standing_loss() + paid.sum::<u64>()
 }
 
 fn true_variables(trail: &Trail) -> impl Iterator<Item = Literal> + '_ {

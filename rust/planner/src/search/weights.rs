@@ -264,7 +264,9 @@ impl<'a> Ascent<'a> {
         let (weights, divisor) = (self.over(divisor), divisor as u16);
         let mut literals: Vec<Literal> = trail.order().iter().map(|held| held.negated()).collect();
         let total = linear_total(self.problem, &literals, divisor, &weights);
-        let mut spare = total - i64::from(divisor) * (target as i64 - 1) - 1;
+        // The loss comes to the bound after the division, so the total has to reach the target without it.
+        let target = (target - self.problem.standing_loss()) as i64;
+        let mut spare = total - i64::from(divisor) * (target - 1) - 1;
         if spare < 0 || weights.is_empty() {
             return None;
         }
@@ -272,9 +274,9 @@ impl<'a> Ascent<'a> {
         literals.reverse();
         literals.retain(|literal| {
             // A true variable adds its remainder and a false one nothing, but either, once unset, the lesser of the two.
-            let loss = (-sign(*literal) * left[literal.index()]).max(0);
-            let needed = loss > spare;
-            spare -= if needed { 0 } else { loss };
+            let lost = (-sign(*literal) * left[literal.index()]).max(0);
+            let needed = lost > spare;
+            spare -= if needed { 0 } else { lost };
             needed
         });
         Some(Weighted {

@@ -1,7 +1,12 @@
 //! Random covering problems, and the reference checker's word on their records.
+// Not every program needs all of it.
+#![allow(dead_code)]
 
 use planner::random::Random;
 use planner::{format, Literal, Problem};
+
+/// What problems are given in turn: no standing loss, and then those of marked sheets, 0, a small one and the largest.
+pub const LOSSES: [Option<u32>; 4] = [None, Some(0), Some(7), Some(u32::MAX)];
 
 #[derive(Clone, Copy, Debug)]
 pub struct Shape {
@@ -20,7 +25,11 @@ pub fn problem(shape: &Shape, random: &mut Random) -> Problem {
         .map(|_| random.between(1, shape.dearest) as u32)
         .collect();
     let clauses = (0..shape.clauses).map(|_| clause(shape, random)).collect();
-    Problem { costs, clauses }
+    Problem {
+        loss: None,
+        costs,
+        clauses,
+    }
 }
 
 fn clause(shape: &Shape, random: &mut Random) -> Vec<Literal> {

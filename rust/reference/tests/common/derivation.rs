@@ -27,6 +27,18 @@ pub enum Bounding {
     Weights { divisor: u16 },
 }
 
+impl Bounding {
+    pub fn random(numbers: &mut Numbers) -> Bounding {
+        match numbers.below(4) {
+            0 => Bounding::Nothing,
+            1 => Bounding::IndependentSets,
+            divisor => Bounding::Weights {
+                divisor: divisor as u16 - 1,
+            },
+        }
+    }
+}
+
 /// A derived cost clause and the number of its step.
 pub struct Derived {
     step: u32,

@@ -4,8 +4,10 @@
 #![allow(dead_code)]
 
 pub mod derivation;
+pub mod writer;
 
 use reference::Answer;
+use std::ops::Range;
 
 pub use reference::NONE;
 
@@ -64,6 +66,26 @@ pub fn sheet_of_bodies(costs: &[u32], bodies: &[Vec<u8>]) -> Vec<u8> {
     let mut head = two_bytes(&[costs.len() as u16, bodies.len() as u16]);
     head.extend(four_bytes(costs));
     with_bodies(head, bodies)
+}
+
+/// The bit of the n field that says that a loss follows the costs.
+const MARK: u16 = 0x8000;
+
+/// The sheet, which has no mark, with one and with this loss. Its bodies stand 4 bytes further on.
+pub fn marked(loss: u32, sheet: &[u8]) -> Vec<u8> {
+    let in_2_bytes = |at: usize| u16::from_le_bytes(sheet[at..at + 2].try_into().unwrap());
+    let in_4_bytes = |at: usize| u32::from_le_bytes(sheet[at..at + 4].try_into().unwrap());
+    let (n, m) = (in_2_bytes(0), in_2_bytes(2));
+    let pairs_start = 4 + 4 * usize::from(n);
+    let pairs_end = pairs_start + 8 * usize::from(m);
+    let mut file = two_bytes(&[MARK | n, m]);
+    file.extend(&sheet[4..pairs_start]);
+    file.extend(four_bytes(&[loss]));
+    for pair in (pairs_start..pairs_end).step_by(8) {
+        file.extend(four_bytes(&[in_4_bytes(pair) + 4, in_4_bytes(pair + 4)]));
+    }
+    file.extend(&sheet[pairs_end..]);
+    file
 }
 
 /// A record with this claim, these assignment bytes and these step bodies.
@@ -126,10 +148,30 @@ pub fn stated(body: &[u8]) -> (u16, u64) {
 /// What the last step of a record that can be read states.
 pub fn stated_last(sheet: &[u8], record: &[u8]) -> (u16, u64) {
     let in_4_bytes = |at: usize| u32::from_le_bytes(record[at..at + 4].try_into().unwrap());
-    let variable_count = u16::from_le_bytes([sheet[0], sheet[1]]);
+    let variable_count = u16::from_le_bytes([sheet[0], sheet[1]]) & !MARK;
     let pairs_start = 12 + variable_count.div_ceil(8) as usize;
     let last_pair = pairs_start + 8 * (in_4_bytes(8) as usize - 1);
     stated(&record[in_4_bytes(last_pair) as usize..])
+}
+
+/// A claim or a bound of an unmarked sheet, once there is this loss: "none" stays.
+pub fn with_loss(loss: u32, cost: u64) -> u64 {
+    match cost {
+        NONE => NONE,
+        cost => cost + u64::from(loss),
+    }
+}
+
+/// Steps of an unmarked sheet, once there is this loss. What is too short for a bound stays.
+pub fn steps_with_loss(loss: u32, steps: &[Vec<u8>]) -> Vec<Vec<u8>> {
+    let raised = |body: &Vec<u8>| {
+        if body.len() < 12 {
+            return body.clone();
+        }
+        let bound = with_loss(loss, stated(body).1);
+        edited(body, 4, &bound.to_le_bytes())
+    };
+    steps.iter().map(raised).collect()
 }
 
 /// An acceptance: least, or none where the cost is [`NONE`].
@@ -163,6 +205,11 @@ pub fn refused(number: u32, place: u64) -> Answer {
         step_count: 0,
         gap: 0,
     }
+}
+
+/// The shown part is these bytes of this file, by address and not just by content.
+pub fn assert_part(shown: &[u8], file: &[u8], range: Range<usize>) {
+    assert_eq!(shown.as_ptr_range(), file[range].as_ptr_range());
 }
 
 /// `bytes` with those from `at` on replaced by `new`.

@@ -15,8 +15,8 @@ use std::cmp::Ordering;
 /// How many steps are tried until one has the wanted bound.
 const TRIES: usize = 8;
 
-const COST: u8 = 2;
-const INDEPENDENT: u8 = 3;
+pub(super) const COST: u8 = 2;
+pub(super) const INDEPENDENT: u8 = 3;
 
 pub const ALONE: &[Damage] = &[
     damage(
@@ -82,7 +82,7 @@ pub const ALONE: &[Damage] = &[
 ];
 
 /// A good step of this kind without literals; nothing where the sheet has no clauses for it.
-fn good_step(kind: u8, draft: &Draft, random: &mut Random) -> Option<Body> {
+pub(super) fn good_step(kind: u8, draft: &Draft, random: &mut Random) -> Option<Body> {
     match kind {
         COST => Some(Body::cost(draft, Vec::new())),
         INDEPENDENT => independent(draft, random),

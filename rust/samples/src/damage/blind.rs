@@ -2,6 +2,7 @@
 
 use super::independence::one_more;
 use super::linear::bounds::one_more as one_more_weighed;
+use super::losses::turn_mark;
 use super::statements::{literal_extra, literal_missing};
 use super::{damage, Damage, Way};
 use crate::draft::{Body, Draft, Files};
@@ -73,6 +74,7 @@ pub const BLIND: &[Damage] = &[
         "blind byte among the weights",
         Way::Step(KIND, |_, _, body, random| byte(&mut body.tail, random)),
     ),
+    damage("blind mark turned round", Way::Files(turn_mark)),
     damage("blind bodies exchanged", Way::Draft(exchanged)),
     damage("blind body left out", Way::Draft(left_out)),
     damage("blind body repeated", Way::Draft(repeated)),

@@ -113,11 +113,11 @@ fn lower_bound(draft: &mut Draft, random: &mut Random) -> Option<()> {
     weaker.then(|| draft.steps = steps.iter().map(Body::bytes).collect())
 }
 
-/// The cost step without literals has the bound 0.
+/// The bound of the cost step without literals is the loss.
 fn cost_after(draft: &mut Draft, under_none: bool) -> Option<()> {
-    let weak = Body::cost(draft, Vec::new()).bytes();
-    let applies = draft.claim > 0 && (draft.claim == NONE) == under_none;
-    applies.then(|| draft.steps.push(weak))
+    let weak = Body::cost(draft, Vec::new());
+    let applies = draft.claim > weak.bound && (draft.claim == NONE) == under_none;
+    applies.then(|| draft.steps.push(weak.bytes()))
 }
 
 /// A good step of kind 5 that leaves a gap, or one that closes nothing.

@@ -1,9 +1,9 @@
 //! The fixed parts of both files: numbers at and over their ranges, files that end too early.
 
 use super::{damage, Damage, Way};
-use crate::draft::{assignment_length, overwrite, read_u16, Draft, Files};
+use crate::draft::{assignment_length, overwrite, read_u16, Draft, Files, Head};
 use crate::random::Random;
-use planner::format::{PAIR, RECORD_HEAD, STEP_COUNT};
+use planner::format::{MARK, PAIR, RECORD_HEAD, STEP_COUNT};
 use planner::{MOST_CLAUSES, MOST_VARIABLES, NONE};
 
 pub const HEADS: &[Damage] = &[
@@ -99,7 +99,7 @@ fn cut(file: &mut Vec<u8>, low: usize, high: usize, random: &mut Random) -> Opti
 }
 
 fn cut_costs(files: &mut Files, random: &mut Random) -> Option<()> {
-    let end = files.sheet_table()?.start;
+    let end = Head::read(&files.sheet)?.costs_end();
     cut(&mut files.sheet, 4, end, random)
 }
 
@@ -111,7 +111,8 @@ fn cut_sheet_pairs(files: &mut Files, random: &mut Random) -> Option<()> {
 fn sheet_number(files: &mut Files, random: &mut Random) -> Option<()> {
     let place = *random.pick(&[0, 2])?;
     let (n, m) = (MOST_VARIABLES as u16, MOST_CLAUSES as u16);
-    let number = *random.pick(&[0, 1, n, n + 1, m, m + 1, 1 << 15, u16::MAX])?;
+    let unmarked = *random.pick(&[0, 1, n, n + 1, m, m + 1, !MARK])?;
+    let number = unmarked | *random.pick(&[0, MARK])?;
     if read_u16(&files.sheet, place)? == number {
         return None;
     }

@@ -185,9 +185,9 @@ pub fn one_more(draft: &Draft, _: u32, body: &mut Body, random: &mut Random) -> 
     Some(())
 }
 
-/// A bound that takes for each cited clause what `share` makes of all and of the unsettled costs.
+/// A bound with the loss that takes for each cited clause what `share` makes of all and of the unsettled costs.
 fn bound(draft: &Draft, body: &Body, share: fn(&[u64], &[u64]) -> u64) -> Option<u64> {
-    let mut total = settled_cost(draft, body);
+    let mut total = draft.standing_loss() + settled_cost(draft, body);
     for number in body.cited() {
         let clause = draft.clause(number)?;
         let costs = |codes: &[u16]| codes.iter().map(|code| draft.cost_of(*code)).collect();
@@ -234,7 +234,7 @@ fn without_settled(draft: &Draft, _: u32, body: &mut Body, _: &mut Random) -> Op
 }
 
 fn settled_alone(draft: &Draft, _: u32, body: &mut Body, _: &mut Random) -> Option<()> {
-    let bound = settled_cost(draft, body);
+    let bound = draft.standing_loss() + settled_cost(draft, body);
     set_bound(body, bound)
 }
 

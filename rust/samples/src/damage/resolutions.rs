@@ -265,7 +265,7 @@ fn kept_beside_all(draft: &Draft, code: u16) -> Vec<u16> {
 }
 
 /// Sets a bound, which is told from the lesser one, where it is above that.
-fn raise(draft: &Draft, body: &mut Body, bound: impl FnOnce(u64) -> u64) -> Option<()> {
+pub(super) fn raise(draft: &Draft, body: &mut Body, bound: impl FnOnce(u64) -> u64) -> Option<()> {
     let lesser = Needed::of(draft, body)?.bound;
     let bound = bound(lesser);
     (bound > lesser).then(|| body.bound = bound)

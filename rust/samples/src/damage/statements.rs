@@ -112,9 +112,11 @@ fn bound_differs(
     (sum(draft, body, |code| code % 2 == 1) != body.bound).then_some(())
 }
 
+/// The loss with the costs of the literals that count.
 fn sum(draft: &Draft, body: &Body, counted: fn(u16) -> bool) -> u64 {
     let codes = body.literals.iter().filter(|code| counted(**code));
-    codes.map(|code| draft.cost_of(*code)).sum()
+    let costs = codes.map(|code| draft.cost_of(*code));
+    draft.standing_loss() + costs.sum::<u64>()
 }
 
 fn costs_of_positive(draft: &Draft, _: u32, body: &mut Body, _: &mut Random) -> Option<()> {

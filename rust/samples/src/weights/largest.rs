@@ -6,15 +6,21 @@ use crate::draft::{code_bytes, Draft};
 use crate::Sample;
 use planner::{MOST_CLAUSES, MOST_VARIABLES};
 
-/// Accepted records, with totals far below 0 and far above. The clauses are of so many literals: with the most that there may
-/// be, the sheets have 8 MB.
-pub fn samples(literals: usize) -> [Sample; 2] {
-    [below_zero(literals), above_zero(literals)]
+/// Accepted records, with totals far below 0 and far above, without a loss and with the largest. The clauses are of so many
+/// literals: with the most that there may be, the sheets have 8 MB.
+pub fn samples(literals: usize) -> [Sample; 4] {
+    let [plain, marked] = [None, Some(u32::MAX)];
+    [
+        below_zero(plain, literals),
+        above_zero(plain, literals),
+        below_zero(marked, literals),
+        above_zero(marked, literals),
+    ]
 }
 
 /// Positive clauses over variables that cost nothing. One true variable is a plan.
-fn below_zero(literals: usize) -> Sample {
-    let mut draft = sheet(0, 0, literals);
+fn below_zero(loss: Option<u32>, literals: usize) -> Sample {
+    let mut draft = sheet(loss, 0, 0, literals);
     draft.flip(1);
     add(&mut draft, &every(1, MOST_VARIABLES), 1);
     add(&mut draft, &[], u16::MAX);
@@ -25,8 +31,8 @@ fn below_zero(literals: usize) -> Sample {
 }
 
 /// Negative clauses over the dearest variables. The plan has none of them.
-fn above_zero(literals: usize) -> Sample {
-    let mut draft = sheet(u32::MAX, 1, literals);
+fn above_zero(loss: Option<u32>, literals: usize) -> Sample {
+    let mut draft = sheet(loss, u32::MAX, 1, literals);
     add(&mut draft, &every(1, MOST_VARIABLES), u16::MAX);
     add(&mut draft, &[], 1);
     Sample::new(
@@ -41,11 +47,13 @@ fn every(polarity: u16, count: usize) -> Vec<u16> {
     variables.map(|variable| 2 * variable + polarity).collect()
 }
 
-fn sheet(cost: u32, polarity: u16, literals: usize) -> Draft {
+/// No variable has to be paid for, so that the claim is the loss.
+fn sheet(loss: Option<u32>, cost: u32, polarity: u16, literals: usize) -> Draft {
     Draft {
+        loss,
         costs: vec![cost; MOST_VARIABLES],
         clauses: vec![code_bytes(&every(polarity, literals)); MOST_CLAUSES],
-        claim: 0,
+        claim: loss.map_or(0, u64::from),
         assignment: vec![0; MOST_VARIABLES / 8],
         steps: Vec::new(),
     }

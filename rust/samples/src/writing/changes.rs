@@ -26,6 +26,11 @@ pub const CHANGES: &[(&str, Change)] = &[
     ("two costs exchanged", costs_exchanged),
     ("a variable more", variable_more),
     ("a variable less", variable_less),
+    ("the loss changed", loss_changed),
+    ("a loss of 1", loss_of_one),
+    ("the loss left out", loss_left_out),
+    ("the loss as a cost", loss_as_cost),
+    ("the loss and a cost exchanged", loss_exchanged),
 ];
 
 fn some_clause(content: &Content, random: &mut Random) -> Option<Vec<u16>> {
@@ -118,4 +123,35 @@ fn variable_less(content: &mut Content, _: &mut Random) -> Option<()> {
     content.costs.pop();
     let mut codes = content.clauses.iter().flatten();
     (last > 1 && codes.all(|code| code / 2 < last)).then_some(())
+}
+
+/// One bit of it; an unmarked sheet gets a mark by it.
+fn loss_changed(content: &mut Content, random: &mut Random) -> Option<()> {
+    content.loss ^= 1 << random.below(32);
+    Some(())
+}
+
+/// The least that keeps its mark.
+fn loss_of_one(content: &mut Content, _: &mut Random) -> Option<()> {
+    let before = std::mem::replace(&mut content.loss, 1);
+    (before != 1).then_some(())
+}
+
+fn loss_left_out(content: &mut Content, _: &mut Random) -> Option<()> {
+    let before = std::mem::take(&mut content.loss);
+    (before != 0).then_some(())
+}
+
+/// It stands where the cost of a variable more would.
+fn loss_as_cost(content: &mut Content, random: &mut Random) -> Option<()> {
+    let loss = std::mem::take(&mut content.loss);
+    variable_more(content, random)?;
+    *content.costs.last_mut()? = loss;
+    Some(())
+}
+
+fn loss_exchanged(content: &mut Content, random: &mut Random) -> Option<()> {
+    let place = random.below(content.variables());
+    std::mem::swap(&mut content.loss, &mut content.costs[place]);
+    (content.loss != content.costs[place]).then_some(())
 }

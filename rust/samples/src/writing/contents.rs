@@ -1,4 +1,4 @@
-//! Costs and sets of clauses, of shapes that a sort can go wrong on.
+//! Costs, losses and sets of clauses, of shapes that a sort can go wrong on.
 
 use super::Content;
 use crate::random::Random;
@@ -23,7 +23,9 @@ pub fn some(random: &mut Random) -> Content {
 }
 
 fn without_clauses(variables: usize, random: &mut Random) -> Content {
-    Content::of(&sheets::problem(&shape(variables, 0), random))
+    let mut content = Content::of(&sheets::problem(&shape(variables, 0), random));
+    content.loss = sheets::some_loss(random).unwrap_or(0);
+    content
 }
 
 fn shape(variables: usize, clauses: usize) -> Shape {

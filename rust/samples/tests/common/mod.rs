@@ -98,9 +98,14 @@ pub fn is_true(assignment: u32, code: u16) -> bool {
     (assignment >> (code / 2 - 1) & 1 == 1) == code.is_multiple_of(2)
 }
 
-pub fn cost(draft: &Draft, assignment: u32) -> i128 {
+/// What the true variables cost, without the standing loss.
+pub fn paid(draft: &Draft, assignment: u32) -> i128 {
     let paid = (0..draft.variables()).filter(|place| assignment >> place & 1 == 1);
     paid.map(|place| i128::from(draft.costs[place])).sum()
+}
+
+pub fn cost(draft: &Draft, assignment: u32) -> i128 {
+    i128::from(draft.loss.unwrap_or(0)) + paid(draft, assignment)
 }
 
 /// The assignments that make all literals of a step false.

@@ -60,8 +60,10 @@ loop-again c =
 returns : tie.Need-returns Inv-loop μ-loop
 returns c =
     let l = c .before .loop in
-    let e : l .i ≡ count (c .before .before .before .args .part .now) = omega arith in
-    rw e at (l .inv .1)
+    let a = c .before .before .before in
+    let few = rising-few _ 1024 _ (a .pre .1 .variables) in
+    let e : l .i ≡ count (a .args .part .now) = omega arith in
+    (rw e at (l .inv .1), omega (arith, few))
 
 pub price-of-spec : {M : Type 1} → statement M
 price-of-spec =

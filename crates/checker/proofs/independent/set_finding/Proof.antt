@@ -162,21 +162,29 @@ loop-again c =
 whole-bound-requires : tie.Need-whole-bound-requires Inv-loop μ-loop
 whole-bound-requires c κs = omega (arith, c .before .before .before .before .before .before .before .before .before .pre .1)
 
+with-loss-requires : tie.Need-with-loss-requires Inv-loop μ-loop
+with-loss-requires c κs =
+    let l = c .before .before .loop in
+    let tail = c .before .before .before .before in
+    let a = tail .before .before .before .before .before .before in
+    let end : l .j ≡ citedCount (a .args .b .now) = rw (← tail .whole-tail .ensures) (omega arith) in
+    omega (arith, l .inv .1 .sum-fits, end, a .pre .0 .few)
+
 returns-2 : tie.Need-returns-2 Inv-loop μ-loop
 returns-2 c =
-    let l = c .before .before .before .loop in
-    let tail = c .before .before .before .before .before in
+    let l = c .before .before .before .before .loop in
+    let tail = c .before .before .before .before .before .before in
     let b = tail .before .before .before .before .before .before .args .b .now in
     let end : l .j ≡ citedCount b = rw (← tail .whole-tail .ensures) (omega arith) in
-    (λ fine. l .inv .1 .marked .stale, bound-fault (l .inv .1) end (c .before .whole-bound .ensures) (c .if2 .taken))
+    (λ fine. l .inv .1 .marked .stale, bound-fault (l .inv .1) end (c .before .before .whole-bound .ensures) (c .before .with-loss .ensures) (c .if2 .taken))
 
 returns-3 : tie.Need-returns-3 Inv-loop μ-loop
 returns-3 c =
-    let l = c .before .before .before .loop in
-    let tail = c .before .before .before .before .before in
+    let l = c .before .before .before .before .loop in
+    let tail = c .before .before .before .before .before .before in
     let b = tail .before .before .before .before .before .before .args .b .now in
     let end : l .j ≡ citedCount b = rw (← tail .whole-tail .ensures) (omega arith) in
-    (λ fine. l .inv .1 .marked .stale, bound-fine (l .inv .1) end (c .before .whole-bound .ensures) (c .if2 .left))
+    (λ fine. l .inv .1 .marked .stale, bound-fine (l .inv .1) end (c .before .before .whole-bound .ensures) (c .before .with-loss .ensures) (c .if2 .left))
 
 pub set-finding-spec : {M : Type 1} → statement M
 set-finding-spec =
@@ -201,5 +209,6 @@ set-finding-spec =
     loop-less
     loop-again
     whole-bound-requires
+    with-loss-requires
     returns-2
     returns-3)

@@ -2,12 +2,13 @@
 -- remainders. The measure is the number of entries left.
 -- Assumes nothing.
 use Prim.Native.Nat.{_+_, _-_, _*_, _^_, _≤_}
-use mathlib.Core.Path.{_≡_, _∙_}
+use mathlib.Core.Path.{_≡_, ap, _∙_}
 use native.Mathlib.Omega.{arith}
 use lib.IntN.{natAbs}
 use mir.Syntax.{w64}
 use mir.Val.{toZ}
-use Rattle.judgement.specs.Sheet.{variables}
+use Rattle.judgement.specs.Meaning.{withLoss}
+use Rattle.judgement.specs.Sheet.{variables, problemOf}
 use Rattle.judgement.specs.Step.{entryCount}
 use Rattle.judgement.specs.Linear.{remainder, totalOf}
 use Rattle.judgement.specs.Demands.{IsBytes}
@@ -134,13 +135,18 @@ rounded-up-requires c κs =
     let d = start h .pre .2 in
     (omega (arith, few, size, h .loop .inv .0), rw (u .0) d, u .1)
 
+with-loss-requires : tie.Need-with-loss-requires Inv-loop μ-loop
+with-loss-requires c κs = omega (arith, c .rounded-up .ensures .1)
+
 returns : tie.Need-returns Inv-loop μ-loop
 returns c =
-    let h = c .before .before in
+    let h = c .before .before .before in
     let a = start h in
     let u = h .before .before .before .before .before .before .u16-at in
-    let end : h .loop .j ≡ entryCount (a .args .tail .now) = omega (arith, h .loop .inv .0, c .before .loop-test .left) in
-    ((h .loop .inv .2 .stale, h .loop .inv .2 .size), bound-of (a .args .s .now) (a .args .list .now) (a .args .tail .now) (toZ w64 (h .loop .sum)) (h .loop .j) (u .result) (c .rounded-up .ensures) (h .loop .inv .3) end (u .ensures .0))
+    let end : h .loop .j ≡ entryCount (a .args .tail .now) = omega (arith, h .loop .inv .0, c .before .before .loop-test .left) in
+    let rounded =
+    bound-of (a .args .s .now) (a .args .list .now) (a .args .tail .now) (toZ w64 (h .loop .sum)) (h .loop .j) (u .result) (c .before .rounded-up .ensures .0) (h .loop .inv .3) end (u .ensures .0) in
+    ((h .loop .inv .2 .stale, h .loop .inv .2 .size), c .with-loss .ensures ∙ ap (withLoss (problemOf (a .args .s .now))) rounded)
 
 pub bound-by-spec : {M : Type 1} → statement M
 bound-by-spec =
@@ -162,4 +168,5 @@ bound-by-spec =
     loop-less
     loop-again
     rounded-up-requires
+    with-loss-requires
     returns)

@@ -13,7 +13,7 @@ returns : tie.Need-returns
 returns c =
     let a = c .before .args in
     let p = c .before .pre in
-    not-positive (a .total) (a .d) (omega (arith, p .0)) (p .1) (c .if1 .taken)
+    (not-positive (a .total) (a .d) (omega (arith, p .0)) (p .1) (c .if1 .taken), omega arith)
 
 cast-e : tie.Need-cast-e
 cast-e c = search needs

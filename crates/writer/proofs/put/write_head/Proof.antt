@@ -6,17 +6,11 @@ use borrow.Author.Needs.{needs}
 use Rattle.writer.proofs.put.write_head.Statement.{statement}
 use Rattle.writer.proofs.put.write_head.Tie as tie
 
-sub-put-bytes : tie.Need-sub-put-bytes
-sub-put-bytes c = search needs
+first-field-requires : tie.Need-first-field-requires
+first-field-requires c κs = search needs
 
-part-put-bytes-start : tie.Need-part-put-bytes-start
-part-put-bytes-start c = search needs
-
-part-put-bytes-end : tie.Need-part-put-bytes-end
-part-put-bytes-end c = search needs
-
-put-bytes-requires : tie.Need-put-bytes-requires
-put-bytes-requires c κs = search needs
+put-u16-requires : tie.Need-put-u16-requires
+put-u16-requires c κs = search needs
 
 sub-put-u16 : tie.Need-sub-put-u16
 sub-put-u16 c = search needs
@@ -27,8 +21,17 @@ part-put-u16-start c = search needs
 part-put-u16-end : tie.Need-part-put-u16-end
 part-put-u16-end c = search needs
 
-put-u16-requires : tie.Need-put-u16-requires
-put-u16-requires c κs = search needs
+put-u16-requires-2 : tie.Need-put-u16-requires-2
+put-u16-requires-2 c κs = search needs
+
+sub-put-bytes : tie.Need-sub-put-bytes
+sub-put-bytes c = search needs
+
+part-put-bytes-start : tie.Need-part-put-bytes-start
+part-put-bytes-start c = search needs
+
+part-put-bytes-end : tie.Need-part-put-bytes-end
+part-put-bytes-end c = search needs
 
 sub-put-bytes-2 : tie.Need-sub-put-bytes-2
 sub-put-bytes-2 c = search needs
@@ -39,45 +42,36 @@ part-put-bytes-start-2 c = search needs
 part-put-bytes-end-2 : tie.Need-part-put-bytes-end-2
 part-put-bytes-end-2 c = search needs
 
-sub-put-bytes-3 : tie.Need-sub-put-bytes-3
-sub-put-bytes-3 c = search needs
-
-part-put-bytes-start-3 : tie.Need-part-put-bytes-start-3
-part-put-bytes-start-3 c = search needs
-
-part-put-bytes-end-3 : tie.Need-part-put-bytes-end-3
-part-put-bytes-end-3 c = search needs
-
-put-bytes-requires-2 : tie.Need-put-bytes-requires-2
-put-bytes-requires-2 c κs = search needs
+put-bytes-requires : tie.Need-put-bytes-requires
+put-bytes-requires c κs = search needs
 
 same-length : tie.Need-same-length
 same-length c = search needs
 
 returns : tie.Need-returns
 returns c =
-    let a = c .before .before .before .before .before .before .before .before .before .before .before .before .before .before .before .before .args in
-    head-written (a .s .now) (a .table) (a .count) (a .out .now) _ _ _ (omega arith) (omega arith) (omega arith)
-    (c .before .before .before .before .before .before .before .before .before .before .before .put-bytes .ensures) (c .before .before .before .before .before .before .before .put-u16 .ensures) (c .before .before .put-bytes2 .ensures)
+    let field = c .before .before .before .before .before .before .before .before .before .before .before .before .first-field in
+    let p = c .before .before .before .before .before .before .before .before .before .before .before .before .before .before .before .before in
+    let a = p .args in
+    head-written (a .s .now) (a .end) (a .count) (a .out .now) _ _ _ (omega arith) (omega arith) (omega arith) (p .pre .3) (field .ensures)
+    (c .before .before .before .before .before .before .before .before .before .before .before .put-u16 .ensures) (c .before .before .before .before .before .before .before .put-u162 .ensures) (c .before .before .put-bytes .ensures)
 
 pub write-head-spec : {M : Type 1} → statement M
 write-head-spec =
     tie.close
     (tie.spec
-    sub-put-bytes
-    part-put-bytes-start
-    part-put-bytes-end
-    put-bytes-requires
+    first-field-requires
+    put-u16-requires
     sub-put-u16
     part-put-u16-start
     part-put-u16-end
-    put-u16-requires
+    put-u16-requires-2
+    sub-put-bytes
+    part-put-bytes-start
+    part-put-bytes-end
     sub-put-bytes-2
     part-put-bytes-start-2
     part-put-bytes-end-2
-    sub-put-bytes-3
-    part-put-bytes-start-3
-    part-put-bytes-end-3
-    put-bytes-requires-2
+    put-bytes-requires
     same-length
     returns)

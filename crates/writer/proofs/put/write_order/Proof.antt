@@ -3,7 +3,7 @@
 use native.Mathlib.Omega.{arith}
 use Rattle.judgement.specs.Demands.{IsBytes}
 use Rattle.writer.proofs.Canonical.{canonical-length}
-use Rattle.writer.proofs.Raw.{raw-words, raw-size, written-all}
+use Rattle.writer.proofs.Raw.{end-some, raw-words, raw-size, written-all}
 use borrow.Author.Needs.{needs}
 use Rattle.writer.proofs.put.write_order.Statement.{statement}
 use Rattle.writer.proofs.put.write_order.Tie as tie
@@ -18,8 +18,8 @@ write-head-requires c κs =
     let bytes : IsBytes (a .s .now) = λ i. c .before .before .before .shared-slice-known .given i .fits in
     let z = raw-size (a .s .now) (a .table) (h .0) bytes (a .order .now) (h .1) in
     let k = canonical-length (a .s .now) (h .0 .valid) in
-    let p = h .0 .pairs in
-    (omega (arith, p), omega (arith, z, k), omega (arith, z))
+    let four = end-some (a .s .now) in
+    (omega (arith, four), omega (arith, z, k), omega (arith, z), h .4)
 
 mul-start : tie.Need-mul-start
 mul-start c = search needs
@@ -98,7 +98,7 @@ returns c =
     let a = c .before .before .before .before .before .before .before .before .before .before .before .before .before .before .before .args in
     let h = c .before .before .before .before .before .before .before .before .before .before .before .before .before .before .before .pre in
     let bytes : IsBytes (a .s .now) = λ i. c .before .before .before .before .before .before .before .before .before .before .before .before .before .before .shared-slice-known .given i .fits in
-    written-all (a .s .now) (a .table) (h .0) bytes (a .order .now) (h .1) (a .out .now) _ _ _
+    written-all (a .s .now) (a .table) (h .0) bytes (a .order .now) (h .1) (a .end) (h .4) (a .out .now) _ _ _
     (c .before .before .before .before .before .before .before .before .before .before .write-head .ensures) (c .before .before .before .before .before .before .write-pairs .ensures) (c .before .before .write-bodies .ensures)
 
 pub write-order-spec : {M : Type 1} → statement M

@@ -42,7 +42,7 @@ pub struct End {
 
 impl<'a> Branches<'a> {
     pub fn new(problem: &'a Problem, bounds: Bounds, guide: u64) -> Self {
-        let all: u64 = problem.costs.iter().copied().map(u64::from).sum();
+        let all = problem.cost(&vec![true; problem.variables()]);
         Branches {
             problem,
             trail: Trail::new(problem.variables()),

@@ -28,15 +28,17 @@ pub const BOUNDS: &[Damage] = &[
     bound_of("24 bound 0", |_, _, body, _| set_bound(body, 0)),
     bound_of("24 rounded down", |draft, _, body, _| {
         let sums = sums(draft, body)?;
-        set_bound(body, u64::try_from(sums.total() / sums.divisor).ok()?)
+        let quotient = u64::try_from(sums.total() / sums.divisor).ok()?;
+        set_bound(body, quotient + sums.loss)
     }),
     bound_of("24 divisor forgotten", |draft, _, body, _| {
-        set_bound(body, rounded_up(sums(draft, body)?.total(), 1))
+        let sums = sums(draft, body)?;
+        set_bound(body, rounded_up(sums.total(), 1) + sums.loss)
     }),
     bound_of("24 total below zero unsigned", unsigned),
     bound_of("24 total below zero turned", |draft, _, body, _| {
         let sums = sums(draft, body)?;
-        set_bound(body, rounded_up(sums.total().abs(), sums.divisor))
+        set_bound(body, sums.bound_of(sums.total().abs()))
     }),
     bound_of("24 costs undivided", |draft, _, body, _| {
         // The divisor is not brought to the costs.
@@ -170,7 +172,7 @@ pub const BOUNDS: &[Damage] = &[
 /// The bound of a mistaken total.
 fn total(draft: &Draft, body: &mut Body, total: impl Fn(&Sums) -> i128) -> Option<()> {
     let sums = sums(draft, body)?;
-    set_bound(body, rounded_up(total(&sums), sums.divisor))
+    set_bound(body, sums.bound_of(total(&sums)))
 }
 
 /// The bound of a total to which each variable adds something else.
@@ -187,7 +189,8 @@ fn unsigned(draft: &Draft, _: u32, body: &mut Body, random: &mut Random) -> Opti
     }
     let divided = total.div_ceil(divisor);
     let turned = (sums.total().div_euclid(sums.divisor)) as u64;
-    set_bound(body, *random.pick(&[total, divided, turned])?)
+    let rounded = *random.pick(&[total, divided, turned])?;
+    set_bound(body, rounded.wrapping_add(sums.loss))
 }
 
 /// As if the weights of an earlier step were still on the variables.

@@ -16,7 +16,11 @@ fn problem(random: &mut Random) -> Problem {
     };
     let clauses = (0..40).map(&mut clause).collect();
     let costs = (0..14).map(|_| random.between(1, 9) as u32).collect();
-    Problem { costs, clauses }
+    Problem {
+        loss: None,
+        costs,
+        clauses,
+    }
 }
 
 #[test]
