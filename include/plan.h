@@ -24,14 +24,14 @@ enum { PLAN_NUMBER, PLAN_PLACE, PLAN_COST, PLAN_OPEN_COUNT, PLAN_STEP_COUNT, PLA
 
 /* Judges a record. Where the number is not 0, the record is refused: it is the refusal's number in the table of docs/FORMATS.md,
  * with its place, and the last four are 0. Where it is 0, the last four are the claim, the count of true variables, the count of
- * steps and the gap, and there are three such answers, of which the first two alone are acceptances. The cost of an assignment is
- * the sheet's loss and the costs of its true variables:
+ * steps and the gap, and there are three such answers, of which the first two alone are acceptances:
  *
  *   least    the gap is 0 and the claim is not PLAN_NONE: it is the least cost of any assignment that satisfies every clause;
  *   none     the gap is 0 and the claim is PLAN_NONE: no assignment satisfies every clause;
  *   within   the gap is not 0: the record's assignment satisfies every clause at the claimed cost, and no assignment that satisfies
  *            every clause costs less than the claim minus the gap. That the claim is the least is not said.
- */
+ *
+ * The cost of an assignment is the sheet's loss and the costs of its true variables. */
 void plan_judge(const uint8_t *sheet, size_t sheet_len, const uint8_t *record, size_t record_len, uint64_t answer[6]);
 
 /* Where the literals of a step stand: part[0] is 1 for the sheet or 0 for the record, part[1] the first byte, part[2] how many

@@ -14,7 +14,7 @@ use Rattle.judgement.specs.Literals.{count, code, variable}
 use Rattle.judgement.specs.Sheet.{variables, costOf, problemOf}
 use Rattle.judgement.specs.declared.Finding.the-variants.{Fine, Fault}
 use Rattle.judgement.specs.Step.{bound, literals}
-use Rattle.judgement.specs.Kinds.{negativeCost, costBound}
+use Rattle.judgement.specs.Kinds.{negativeCost, falsifiedCost, costBound}
 use Rattle.judgement.specs.Facts.{Among, LiteralList}
 use Rattle.judgement.specs.Demands.{IsBytes}
 use Rattle.judgement.proofs.Laws.Scan.{sum-same}
@@ -66,11 +66,11 @@ module _ (s prices b : List ℕ) (k : ℕ) (formed : Formed s b k) (known : Pric
       price = (rw part-is at p-is) ∙ price-sum s prices (literals b) known (own-layout s b k formed .list)
 
       pub cost-other : (x ≡ y → ⊥) → Fault 13 k ≡ costBound s b k
-      unfolding costBound
+      unfolding falsifiedCost costBound
       cost-other h = rw (← x-is, ← price, ← y-is, ne-eqb x y h)
 
       pub cost-same : x ≡ y → Fine ≡ costBound s b k
-      unfolding costBound
+      unfolding falsifiedCost costBound
       cost-same h = rw (← x-is, ← price, ← y-is, eq-eqb x y h)
 
 -- ---- the arrays, filled for one variable after the other: a positive literal gets p of its variable, a negative one q of it

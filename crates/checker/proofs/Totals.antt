@@ -138,7 +138,7 @@ weights-fault s b k {r = r} p q h = rw (← p, ← q, not-true r h)
 
 module _ (s b : List ℕ) (k : ℕ) {e D : List ℕ} {r : Bool} {x y : ℕ} (p : e ≡ tail b) (l : D ≡ literals b) (q : r ≡ isWeighted e)
     (h : not r ≡ false) (x-is : x ≡ bound b) (y-is : y ≡ withLoss (problemOf s) (roundedUp (totalOf s D e (entryCount e)) (divisor e))) where
-  cost-is : y ≡ withLoss (problemOf s) (linearCost s b)
+  cost-is : y ≡ linearCost s b
   unfolding linearCost total
   cost-is = rw (y-is, p, l)
 

@@ -57,9 +57,9 @@ totalOf s D e q = entrySum s e q +ℤ addendSum D (variables s) (remainder s e q
 unfoldable pub total : List ℕ → List ℕ → ℤ
 total s b = totalOf s (literals b) (tail b) (entryCount (tail b))
 
--- what it comes to: the least number whose d-fold is not below the total
+-- its bound: the least number whose d-fold is not below the total, plus the loss
 unfoldable pub linearCost : List ℕ → List ℕ → ℕ
-linearCost s b = roundedUp (total s b) (divisor (tail b))
+linearCost s b = withLoss (problemOf s) (roundedUp (total s b) (divisor (tail b)))
 
 -- ---- refusals
 
@@ -73,4 +73,4 @@ weightsFinding b k = need (isWeighted (tail b)) 23 k
 
 -- 24, linear bound
 unfoldable pub linearBound : List ℕ → List ℕ → ℕ → Finding
-linearBound s b k = need (eqb (bound b) (withLoss (problemOf s) (linearCost s b))) 24 k
+linearBound s b k = need (eqb (bound b) (linearCost s b)) 24 k

@@ -9,8 +9,8 @@ use mathlib.Core.List.{List, [], _∷_}
 use mathlib.Core.Logic.{_≢_, _⊎_}
 use lib.ListN.{getD}
 use lib.Dec.{eqb}
-use Rattle.judgement.specs.Meaning.{variableOf, isPositive, opposite, withLoss, Includes}
-use Rattle.judgement.specs.Sheet.{clauses, problemOf}
+use Rattle.judgement.specs.Meaning.{variableOf, isPositive, opposite, Includes}
+use Rattle.judgement.specs.Sheet.{clauses}
 use Rattle.judgement.specs.Record.{steps, step}
 use Rattle.judgement.specs.Step.{bound, literals, stated, tail, citedCount, divisor, entryCount, weight}
 use Rattle.judgement.specs.Kinds.{independentCost}
@@ -107,14 +107,14 @@ pub record Reached (s r : List ℕ) (k : ℕ) : Type 0 where
   pub forms : (h : ℕ) → 1 ≤ h → h ≤ k → StepLayout s (step s r h)
   pub inferences : (h : ℕ) → 1 ≤ h → h < k → Inference s r h
 
--- what a step of kind 3 with the body b is refused by: one of the four; or 15, where all clauses that it cites fit and its bound is
--- not the cost and the loss
+-- what a step of kind 3 with the body b is refused by: one of the four; or 15, where all clauses that it cites fit and its bound is not the
+-- cost
 abbrev pub RefusedIndependent : List ℕ → List ℕ → ℕ → Type 0
 RefusedIndependent s b number =
     FirstDependent s b number
     ⊎ ((number ≡ 15)
     × ((j : ℕ) → Among (citedCount b) j → Fits s b j (literals b) (citedClause s b j))
-    × (bound b ≢ withLoss (problemOf s) (independentCost s b)))
+    × (bound b ≢ independentCost s b))
 
 -- the number is one of those of kind 3
 abbrev pub isOfIndependent : ℕ → Bool
@@ -143,7 +143,7 @@ pub data RefusedLinear (s b : List ℕ) (number : ℕ) : Type 0 where
   no-divisor : number ≡ 23 → divisor (tail b) ≡ 0 → RefusedLinear s b number
   -- a weight is 0
   no-weight : number ≡ 23 → (j : ℕ) → Among (entryCount (tail b)) j → weight (tail b) j ≡ 0 → RefusedLinear s b number
-  -- none is, and the bound is not the total divided by d and rounded up, and the loss
+  -- none is, and the bound is not the total divided by d and rounded up, plus the loss
   other-bound : number ≡ 24 → Weighted (tail b) → (BoundedByTotal s b → ⊥) → RefusedLinear s b number
 
 -- the number is one of those of kind 5

@@ -10,7 +10,7 @@ use native.Mathlib.Decide.{decLt}
 use borrow.Author.Tests.{le-leb}
 use lib.ListN.{length, getD, drop, length-append, length-take, length-map, List·getD-map}
 use Rattle.judgement.specs.Scan.{sumOf, listOf}
-use Rattle.judgement.specs.Meaning.{Assignment, Satisfies, Model, trueCost, cost, Least, Breaks}
+use Rattle.judgement.specs.Meaning.{Assignment, Satisfies, Model, costOfTrue, cost, Least, Breaks}
 use Rattle.judgement.specs.Pairs.{pairOffset, pairLength, body}
 use Rattle.judgement.specs.Literals.{count, code, codesIn, holds}
 use Rattle.judgement.specs.declared.Finding.the-variants.{Fine}
@@ -37,7 +37,7 @@ use Rattle.writer.specs.declared.Comparison.the-variants.{Before, Same, 
 use Rattle.writer.specs.Order.{Precedes, Rises, clauseCodes}
 use Rattle.writer.specs.Sorted.{compare, byCase, insert, sorted}
 use Rattle.writer.specs.Canonical.{ordered, canonical, writeFinding, shortage, writing, leaves}
-use Rattle.writer.specs.Promises.{ClausesWithin, SameProblem, MarkedForLoss, OneWay}
+use Rattle.writer.specs.Promises.{ClausesWithin, SameProblem, NoIdleMark, OneWay}
 use Rattle.writer.proofs.Order.{sorted-rises, sorted-has, sorted-from, in-order, in-order-same}
 use Rattle.writer.proofs.Only.{in-place}
 use Rattle.writer.proofs.SheetBack.{loss-or, headOf, sizeOf, length-sheet, back-variables, back-mark, back-clauses, back-cost, back-loss, back-clause, back-valid}
@@ -263,8 +263,8 @@ module _ (s : List ℕ) (valid : ValidSheet s) where
       let below = loss-below s bytes in
       rw is-written (back-loss (loss s) costs bodies n-fits m-top size-top (omega (arith, below)))
 
-  -- it is marked exactly where something is lost
-  canonical-mark : IsBytes s → MarkedForLoss (canonical s)
+  -- it has no mark whose loss is 0
+  canonical-mark : IsBytes s → NoIdleMark (canonical s)
   canonical-mark bytes = rw (canonical-loss bytes, is-written) (back-mark (loss s) costs bodies n-fits m-top size-top)
 
   -- the literals of a clause are those of its list, written
@@ -380,7 +380,7 @@ same-model s t h α m k l u =
     same-satisfied α (clause s j) (clause t k) (λ c. (e c .1, e c .0)) (m j (w .0) (w .1))
 
 same-cost : (s t : List ℕ) → SameProblem s t → (α : Assignment) → cost (problemOf s) α ≡ cost (problemOf t) α
-unfolding trueCost cost
+unfolding costOfTrue cost
 same-cost s t h α =
     let paid =
     sum-same (λ v. cond (α v) (costOf s v) 0) (λ v. cond (α v) (costOf t v) 0) (variables s) (λ v w. rw (h .same-costs v w))

@@ -1,30 +1,29 @@
--- A valid sheet whose clauses stand in order, with a mark exactly where something is lost, is its own canonical sheet: the pair rule
--- leaves no byte of it free.
+-- A valid sheet whose clauses stand in order and whose mark, if it has one, tells of a loss is its own canonical sheet: the pair
+-- rule leaves no byte of it free.
 -- Assumes nothing.
 use Prim.Native.Nat.{ℕ, zero, suc, _+_, _-_, _*_, _≤_, _<_}
 use mathlib.Core.Path.{_≡_, refl, sym, ap, _∙_}
 use mathlib.Core.List.{List, [], _∷_, _++_, map, append-assoc}
-use mathlib.Core.Logic.{inl, inr}
+use mathlib.Core.Logic.{_⊎_, inl, inr}
 use native.Mathlib.Omega.{arith}
 use native.Mathlib.Decide.{decLt}
 use lib.ListN.{length, take, drop, length-take, length-drop, take-append-drop, drop-of-length-le}
 use lib.Seq.{take-add, drop-drop}
-use Rattle.judgement.specs.Number.{numberAt}
 use Rattle.judgement.specs.Pairs.{pairOffset, pairLength, body}
-use Rattle.judgement.specs.Sheet.{variables, clauses, clausePairsAt, loss}
+use Rattle.judgement.specs.Sheet.{firstField, variables, clauses, clausePairsAt, loss}
 use Rattle.judgement.specs.Writer.{bytesOf, pairsOf, joined, fileOf, markOf}
 use Rattle.judgement.specs.Facts.{OneOf, PairRule, ValidSheet}
 use Rattle.judgement.specs.Demands.{IsBytes}
 use Rattle.judgement.proofs.Laws.Stored.{number-below, bytes-again}
-use Rattle.judgement.proofs.Laws.Mark.{mark-or, variables-are}
+use Rattle.judgement.proofs.Laws.Mark.{WithMark, NoMark, mark-or, variables-are}
 use Rattle.judgement.proofs.Complete.Bytes.{length-bytes}
 use Rattle.judgement.proofs.Facts.Shown.{body-ends}
 use Rattle.writer.specs.Order.{Leads, Rises, clauseCodes, InPlace}
 use Rattle.writer.specs.Canonical.{canonical}
-use Rattle.writer.specs.Promises.{MarkedForLoss}
+use Rattle.writer.specs.Promises.{NoIdleMark}
 use Rattle.writer.specs.Words.{wordOf, numberOf, codesOf, bodyOf, Words, SortedRange, headEnd, headBytes}
 use Rattle.writer.proofs.Merging.{words-wider}
-use Rattle.writer.proofs.SheetBack.{loss-or}
+use Rattle.writer.proofs.SheetBack.{Lossless, Lossy, loss-or}
 use Rattle.writer.proofs.Raw.{raw-canonical}
 
 -- ---- a file with a table of pairs, from its pairs on
@@ -181,40 +180,38 @@ module _ (s : List ℕ) (few : clauses s < 65536) (order : InPlace s) where
     every = λ k l u. from-every 0 (clauses s) k (omega arith) l u;
   }
 
--- ---- what stands before the pairs of a sheet whose mark tells of a loss
+-- ---- what stands before the pairs of a sheet without an idle mark
+
+-- it has mark and loss, or neither
+mark-stands : (s : List ℕ) → NoIdleMark s → (WithMark s × Lossy (loss s)) ⊎ (NoMark s × Lossless (loss s))
+mark-stands s due = go (mark-or s) (loss-or (loss s))
+  where
+    go : WithMark s ⊎ NoMark s → Lossless (loss s) ⊎ Lossy (loss s) → (WithMark s × Lossy (loss s)) ⊎ (NoMark s × Lossless (loss s))
+    go (inl m) (inl o) = absurd (due (m .is) (o .is))
+    go (inl m) (inr o) = inl (m, o)
+    go (inr m) (inl o) = inr (m, o)
+    go (inr m) (inr o) = absurd (o .is (m .lost))
 
 -- its pairs begin where those of the written sheet do
-end-stands : (s : List ℕ) → MarkedForLoss s → headEnd s ≡ clausePairsAt s
+end-stands : (s : List ℕ) → NoIdleMark s → headEnd s ≡ clausePairsAt s
 unfolding headEnd
-end-stands s due = elim (mark-or s) [
-  | inl m ↦ elim (loss-or (loss s)) [
-    | inl o ↦ absurd (due .0 (m .is) (o .is))
-    | inr o ↦ rw (o .bytes-are, m .size, length-bytes 4 (loss s))
-  ]
-  | inr m ↦ elim (loss-or (loss s)) [
-    | inl o ↦ rw (o .bytes-are, m .size)
-    | inr o ↦ absurd (o .is (m .lost))
-  ]
+end-stands s due = elim (mark-stands s due) [
+  | inl (m, o) ↦ rw (o .bytes-are, m .size, length-bytes 4 (loss s))
+  | inr (m, o) ↦ rw (o .bytes-are, m .size)
 ]
 
 -- and its first field is theirs
-field-stands : (s : List ℕ) → IsBytes s → MarkedForLoss s → markOf (loss s) + variables s ≡ numberAt s 0 2
+field-stands : (s : List ℕ) → IsBytes s → NoIdleMark s → markOf (loss s) + variables s ≡ firstField s
 field-stands s bytes due =
     let v = variables-are s in
     let b = number-below 2 s bytes 0 in
-    elim (mark-or s) [
-      | inl m ↦ elim (loss-or (loss s)) [
-        | inl o ↦ absurd (due .0 (m .is) (o .is))
-        | inr o ↦ omega (arith, o .mark-is, m .field, v, b)
-      ]
-      | inr m ↦ elim (loss-or (loss s)) [
-        | inl o ↦ omega (arith, o .mark-is, m .field, v)
-        | inr o ↦ absurd (o .is (m .lost))
-      ]
+    elim (mark-stands s due) [
+      | inl (m, o) ↦ omega (arith, o .mark-is, m .field, v, b)
+      | inr (m, o) ↦ omega (arith, o .mark-is, m .field, v)
     ]
 
 head-stands : (s : List ℕ) (table : ℕ) → IsBytes s → 4 ≤ table → table ≤ length s → headEnd s ≡ table
-    → markOf (loss s) + variables s ≡ numberAt s 0 2 → headBytes s (clauses s) ≡ take table s
+    → markOf (loss s) + variables s ≡ firstField s → headBytes s (clauses s) ≡ take table s
 unfolding headBytes
 head-stands s table bytes four h end field =
     let z : table ≡ 2 + (2 + (table - 4)) = omega arith in
@@ -222,7 +219,7 @@ head-stands s table bytes four h end field =
     (sym (ap (λ (n : ℕ). take n s) z
     ∙ rw (take-add 2 (2 + (table - 4)) s, take-add 2 (table - 4) (drop 2 s), drop-drop 2 2 s, append-assoc)))
 
-pub in-place : (s : List ℕ) → ValidSheet s → IsBytes s → InPlace s → MarkedForLoss s → canonical s ≡ s
+pub in-place : (s : List ℕ) → ValidSheet s → IsBytes s → InPlace s → NoIdleMark s → canonical s ≡ s
 unfolding fileOf
 in-place s valid bytes order due =
     let w = wordsFrom s 0 (clauses s) in

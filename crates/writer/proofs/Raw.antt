@@ -1,11 +1,10 @@
 -- The canonical sheet as the bytes that the writer puts: parts of the sheet, pairs, and bodies as they stand.
 -- Assumes nothing.
-use Prim.Native.Nat.{ℕ, _+_, _-_, _*_, _≤_}
+use Prim.Native.Nat.{ℕ, _+_, _-_, _*_, _/_, _≤_}
 use mathlib.Core.Path.{_≡_, refl, sym, ap, _∙_}
 use mathlib.Core.List.{List, [], _∷_, _++_, map, append-assoc, append-nil}
-use mathlib.Core.Logic.{_≢_, inl, inr}
+use mathlib.Core.Logic.{inl, inr}
 use native.Mathlib.Omega.{arith}
-use borrow.Author.Tests.{ne-eqb}
 use lib.ListN.{length, take, drop, length-append, length-take, length-drop, length-map}
 use lib.Seq.{take-add, drop-drop}
 use Rattle.judgement.specs.Scan.{listOf}
@@ -27,7 +26,7 @@ use Rattle.writer.specs.Order.{clauseCodes}
 use Rattle.writer.specs.Canonical.{ordered, canonical}
 use Rattle.writer.specs.Words.{Known, numberOf, codesOf, bodyOf, Words, SortedRange, headEnd, headBytes}
 use Rattle.writer.proofs.Order.{one-order}
-use Rattle.writer.proofs.SheetBack.{Lossy, loss-or, headOf, length-head}
+use Rattle.writer.proofs.SheetBack.{Lossy, loss-or, loss-length, headOf, length-head}
 
 -- a body is not longer than the file
 pub clause-size : (s : List ℕ) (k : ℕ) → length (clause s k) ≤ length s
@@ -44,15 +43,10 @@ pub end-some : (s : List ℕ) → 4 ≤ headEnd s
 unfolding headEnd
 end-some s = omega arith
 
--- n with the mark, and where the pairs begin: by whether something is lost
-module _ (s : List ℕ) {n costs-end : ℕ} (n-is : n ≡ variables s) (end-is : costs-end ≡ lossAt s) where
-  pub lossless : loss s ≡ 0 → (n ≡ markOf (loss s) + variables s) × (costs-end ≡ headEnd s)
-  unfolding headEnd
-  lossless e = rw e (omega (arith, n-is), omega (arith, end-is))
-
-  pub lossy : loss s ≢ 0 → (mark + n ≡ markOf (loss s) + variables s) × (costs-end + 4 ≡ headEnd s)
-  unfolding headEnd
-  lossy h = rw (ne-eqb (loss s) 0 h, length-bytes 4 (loss s)) (omega (arith, n-is), omega (arith, end-is))
+-- and where the code counts
+pub end-is : (s : List ℕ) {m at : ℕ} → m ≡ markOf (loss s) → at ≡ lossAt s → at + 4 * (m / mark) ≡ headEnd s
+unfolding headEnd
+end-is s p q = rw (p, q, loss-length (loss s))
 
 pub head-written : (s : List ℕ) (end count : ℕ) {field : ℕ} (out₀ out p q : List ℕ) → 4 ≤ end → end ≤ length s → end ≤ length out₀
     → end ≡ headEnd s → field ≡ markOf (loss s) + variables s

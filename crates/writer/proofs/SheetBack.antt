@@ -1,17 +1,16 @@
 -- A written sheet reads back: n, m, costs, loss and clauses, and it is valid where its lists are.
 -- Assumes nothing.
-use Prim.Native.Nat.{ℕ, suc, _+_, _-_, _*_, _^_, _≤_, _<_}
+use Prim.Native.Nat.{ℕ, suc, _+_, _-_, _*_, _/_, _^_, _≤_, _<_}
 use mathlib.Core.Path.{_≡_, sym, _∙_}
 use mathlib.Core.Bool.{true}
 use mathlib.Core.List.{List, [], _++_, append-assoc}
-use mathlib.Core.Logic.{_↔_, _≢_, _⊎_, inl, inr}
+use mathlib.Core.Logic.{_≢_, _⊎_, inl, inr}
 use native.Mathlib.Omega.{arith}
 use native.Mathlib.Decide.{ℕ-discrete}
 use borrow.Author.Tests.{eq-eqb, ne-eqb}
 use lib.ListN.{length, getD, drop, length-append}
 use lib.Seq.{drop-drop, drop-cons, drop-append-le}
-use Rattle.judgement.specs.Number.{numberAt}
-use Rattle.judgement.specs.Sheet.{mark, marked, variables, clauses, lossAt, lossSize, clausePairsAt, costOf, loss, clause}
+use Rattle.judgement.specs.Sheet.{firstField, mark, marked, variables, clauses, lossAt, lossSize, clausePairsAt, costOf, loss, clause}
 use Rattle.judgement.specs.Writer.{bytesOf, numbersOf, pairsOf, joined, fileOf, markOf, lossOf, sheetOf}
 use Rattle.judgement.specs.Facts.{Among, PairRule, LiteralList, ValidSheet}
 use Rattle.judgement.proofs.Laws.Scan.{clash}
@@ -39,6 +38,13 @@ loss-or lost = go (ℕ-discrete lost 0)
     go : Dec (lost ≡ 0) → Lossless lost ⊎ Lossy lost
     go (yes e) = inl (record { is = e; mark-is = rw (eq-eqb lost 0 e); bytes-are = rw (eq-eqb lost 0 e) })
     go (no h) = inr (record { is = h; mark-is = rw (ne-eqb lost 0 h); bytes-are = rw (ne-eqb lost 0 h) })
+
+-- four bytes for the mark's bit
+pub loss-length : (lost : ℕ) → length (lossOf lost) ≡ 4 * (markOf lost / mark)
+loss-length lost = elim (loss-or lost) [
+  | inl o ↦ rw (o .bytes-are, o .mark-is)
+  | inr o ↦ rw (o .bytes-are, o .mark-is) (length-bytes 4 lost)
+]
 
 -- ---- the head
 
@@ -89,7 +95,7 @@ module _ (lost : ℕ) (costs : List ℕ) (bodies : List (List ℕ))
     | inr o ↦ omega (arith, o .mark-is)
   ]
 
-  back-field : numberAt written 0 2 ≡ field
+  back-field : firstField written ≡ field
   back-field = number-of 2 field 0 written _ at-0 field-fits
 
   pub back-variables : variables written ≡ length costs
@@ -121,10 +127,10 @@ module _ (lost : ℕ) (costs : List ℕ) (bodies : List (List ℕ))
         | inr o ↦ absurd (omega (arith, o .mark-is, f, m .field))
       ]
 
-  pub back-mark : (marked written ≡ true) ↔ (lost ≢ 0)
-  back-mark = elim (mark-or written) [
-    | inl m ↦ (λ e. marked-lossy m .is, λ h. m .is)
-    | inr m ↦ (λ e. absurd (clash e (m .is)), λ h. absurd (h (unmarked-lossless m .is)))
+  pub back-mark : marked written ≡ true → lost ≢ 0
+  back-mark e = elim (mark-or written) [
+    | inl m ↦ marked-lossy m .is
+    | inr m ↦ absurd (clash e (m .is))
   ]
 
   pub back-clauses : clauses written ≡ length bodies

@@ -53,9 +53,9 @@ pub record SameProblem (s t : List ℕ) : Type 0 where
   pub there : ClausesWithin s t
   pub back : ClausesWithin t s
 
--- the mark tells of a loss: none is lost where it is missing, and it is missing where none is
-abbrev pub MarkedForLoss : List ℕ → Type 0
-MarkedForLoss s = (marked s ≡ true) ↔ (loss s ≢ 0)
+-- a mark tells of a loss that is not 0; that a sheet without one has loss 0 needs no saying
+abbrev pub NoIdleMark : List ℕ → Type 0
+NoIdleMark s = marked s ≡ true → loss s ≢ 0
 
 -- of a valid sheet s
 pub record OneWay (s : List ℕ) : Type 0 where
@@ -63,12 +63,12 @@ pub record OneWay (s : List ℕ) : Type 0 where
   pub valid : ValidSheet (canonical s)
   pub bytes : IsBytes (canonical s)
   pub no-longer : length (canonical s) ≤ length s
-  -- its clauses stand in order, and it has the mark exactly where something is lost
+  -- its clauses stand in order, and it has no mark whose loss is 0
   pub rises : InPlace (canonical s)
-  pub mark : MarkedForLoss (canonical s)
-  -- it states the same problem, and no other valid sheet that does has its clauses in order and such a mark
+  pub mark : NoIdleMark (canonical s)
+  -- it states the same problem, and no other valid sheet that does has its clauses in order and no such mark
   pub same : SameProblem s (canonical s)
-  pub only : (t : List ℕ) → ValidSheet t → IsBytes t → SameProblem s t → InPlace t → MarkedForLoss t → t ≡ canonical s
+  pub only : (t : List ℕ) → ValidSheet t → IsBytes t → SameProblem s t → InPlace t → NoIdleMark t → t ≡ canonical s
   -- so it has the same models at the same costs, what is least on the one is so on the other, and if there is no model of the
   -- one, there is none of the other
   pub models : (α : Assignment) → Model (problemOf s) α ↔ Model (problemOf (canonical s)) α

@@ -62,26 +62,29 @@ fn write_bodies(s: &[u8], table: usize, order: &[u64], out: &mut [u8])
     }
 }
 
-// n, with the mark where something is lost.
-fn first_field(s: &[u8]) -> u16
-    ensures { λ r. ⌜ r ≡ markOf (loss (now (s .entry))) + variables (now (s .entry)) ⌝ }
+// The mark of a sheet with this loss.
+fn mark_of(lost: u64) -> u32
+    ensures { λ r. ⌜ (r ≡ markOf lost) × (r ≤ 2 ^ 15) ⌝ }
 {
-    let n = sheet::variable_count(s);
-    if sheet::loss(s) == 0 {
-        return n as u16;
+    if lost == 0 {
+        return 0;
     }
-    (MARK + n) as u16
+    MARK
 }
 
-// Where the pairs of the written sheet begin: its costs stand before them, and its loss where there is one.
+// n, with the mark that is due.
+fn due_field(s: &[u8]) -> u16
+    ensures { λ r. ⌜ r ≡ markOf (loss (now (s .entry))) + variables (now (s .entry)) ⌝ }
+{
+    (mark_of(sheet::loss(s)) + sheet::variable_count(s)) as u16
+}
+
+// Where the pairs of the written sheet begin: behind the costs, and the four bytes of its loss where there is one.
 fn head_end(s: &[u8]) -> usize
     ensures { λ r. ⌜ (r ≡ headEnd (now (s .entry))) × (r < 2 ^ 19) ⌝ }
 {
-    let costs_end = sheet::loss_at(s) as usize;
-    if sheet::loss(s) == 0 {
-        return costs_end;
-    }
-    costs_end + 4
+    let size = 4 * (mark_of(sheet::loss(s)) / MARK);
+    (sheet::loss_at(s) + size) as usize
 }
 
 // What stands before these pairs, for so many clauses.
@@ -89,7 +92,7 @@ fn write_head(s: &[u8], end: usize, count: u16, out: &mut [u8])
     requires { ⌜ (4 ≤ end) × (end ≤ length (now s)) × (end ≤ length (now out)) × (end ≡ headEnd (now s)) ⌝ }
     ensures { λ _. ⌜ now (out .exit) ≡ over (headBytes (now (s .entry)) count) (now (out .entry)) ⌝ }
 {
-    layout::put_u16(out, first_field(s));
+    layout::put_u16(out, due_field(s));
     layout::put_u16(&mut out[2..], count);
     layout::put_bytes(&mut out[4..], &s[4..end]);
 }

@@ -58,7 +58,7 @@ impl Room {
     fn take(&mut self, case: &Case) -> bool {
         let (outcome, share) = (Outcome::of(&case.answer), self.share);
         let most_plain = share - least_wider(outcome, share);
-        let most_unmarked = share - share / 2;
+        let most_unmarked = share / 2;
         if self.met.of(outcome) == share
             || (!case.wider && self.plain.of(outcome) == most_plain)
             || (!case.marked && self.unmarked.of(outcome) == most_unmarked)

@@ -6,6 +6,7 @@ use planner::bounds::cost_bound;
 use planner::format::{record_from, sheet, step_body, Bodies};
 use planner::random::Random;
 use planner::{Literal, Problem, Reason, Step, MOST_VARIABLES, NONE};
+use samples::sheets::some_loss;
 use std::collections::{BTreeMap, BTreeSet};
 
 const PIVOT: u64 = 16;
@@ -180,7 +181,7 @@ impl Draft {
         let most = [1, 9, u32::MAX as usize][random.below(3)];
         Draft {
             problem: Problem {
-                loss: None,
+                loss: some_loss(random),
                 costs: (0..variables)
                     .map(|_| random.between(0, most) as u32)
                     .collect(),

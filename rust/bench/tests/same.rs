@@ -4,6 +4,7 @@ use bench::{judge, Marks, Merge};
 use planner::padding::{Kind, Mix};
 use proved::Answer;
 use samples::outcome::{Outcome, Tally};
+use samples::{greatest, Sample};
 
 const COUNT: usize = 50_000;
 
@@ -72,8 +73,22 @@ fn on_longer_records_with_a_loss() {
 #[test]
 fn on_longer_records_with_wider_resolutions() {
     for mix in [Mix::Mixed, Mix::Resolution, Mix::LongOf(Kind::Resolution)] {
-        let sample = samples::long_widened(7, 100_000, mix);
-        assert!(same(&sample.sheet, &sample.record, "long, widened").accepts());
+        for loss in [None, Some(u32::MAX)] {
+            let sample = samples::long_widened(loss, 7, 100_000, mix);
+            assert!(same(&sample.sheet, &sample.record, "long, widened").accepts());
+        }
+    }
+}
+
+#[test]
+fn on_the_greatest_cost() {
+    for (sample, outcome) in greatest::samples() {
+        let Sample {
+            sheet,
+            record,
+            aimed,
+        } = sample;
+        assert_eq!(same(&sheet, &record, aimed), outcome, "{aimed}");
     }
 }
 

@@ -4,6 +4,7 @@
 use bench::{sets, write_decoded, write_stored};
 use planner::{format, Literal, Problem};
 use proved::Written;
+use samples::draft::LOSS;
 use samples::random::Random;
 use samples::sheets::{self, some_loss};
 use std::collections::BTreeMap;
@@ -17,9 +18,6 @@ const WRITERS: [(&str, Write); 3] = [
 ];
 
 const SHORT_BUFFER: u64 = 25;
-
-/// The bytes of a loss.
-const LOSS: usize = 4;
 
 fn wanted(sheet: &[u8], out: &mut [u8]) -> Written {
     let written = reference::write_sheet(sheet, out);

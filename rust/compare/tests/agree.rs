@@ -10,8 +10,10 @@ use samples::draft::{overwrite, read_u32, read_u64, Body, Draft, Files, Head};
 use samples::examples::{example, examples, Example};
 use samples::outcome::{Outcome, Tally};
 use samples::random::Random;
+use samples::sheets::{loss_sort, LOSS_SORTS};
 use samples::weights::largest;
-use samples::{long_widened, long_with_loss, long_with_weights, widening, Sample, VALID, WIDENED};
+use samples::{greatest, widening, Sample, VALID, WIDENED};
+use samples::{long_widened, long_with_loss, long_with_weights};
 use std::collections::BTreeMap;
 
 /// How many samples are compared, unless COMPARE_COUNT says otherwise; from which seed, unless COMPARE_SEED does.
@@ -89,7 +91,9 @@ fn on_generated_and_damaged_records() {
         } = &sample;
         let outcome = same(sheet, record, aimed);
         met.add(outcome);
-        losses.entry(loss_of(sheet)).or_default().add(outcome);
+        if let Some(sort) = loss_of(sheet) {
+            losses.entry(sort).or_default().add(outcome);
+        }
         if widening::passed(&sample, &judge(sheet, record)) > 0 {
             wider.add(outcome);
         }
@@ -114,7 +118,7 @@ fn on_generated_and_damaged_records() {
 }
 
 fn every_loss_is_met(losses: &BTreeMap<&str, Tally>, count: usize) {
-    for sort in ["no mark", "0", "small", "any", "largest"] {
+    for sort in LOSS_SORTS {
         println!("loss {sort}, {}", losses[sort]);
         let (all, least) = (losses[sort].sum(), losses[sort].of(Outcome::Least));
         assert!(all > count / 20, "{all} with the loss {sort}");
@@ -122,17 +126,11 @@ fn every_loss_is_met(losses: &BTreeMap<&str, Tally>, count: usize) {
     }
 }
 
-/// The sort of a sheet's loss.
-fn loss_of(sheet: &[u8]) -> &'static str {
-    match Head::read(sheet).map(|head| (head.is_marked, head.loss(sheet))) {
-        None => "no head",
-        Some((false, _)) => "no mark",
-        Some((true, None)) => "cut short",
-        Some((true, Some(0))) => "0",
-        Some((true, Some(1..=9))) => "small",
-        Some((true, Some(u32::MAX))) => "largest",
-        Some((true, Some(_))) => "any",
-    }
+/// The sort of a sheet's loss; nothing where the sheet ends before its head or its loss does.
+fn loss_of(sheet: &[u8]) -> Option<&'static str> {
+    let head = Head::read(sheet)?;
+    let loss = head.loss(sheet);
+    (loss.is_some() == head.is_marked).then(|| loss_sort(loss))
 }
 
 /// Every fault that has to do with a loss, in good records of marked sheets and of others: each meets its aim.
@@ -232,9 +230,15 @@ fn on_longer_records() {
         on_a_longer_record(long_with_loss(loss, 3, 300_000, Mix::Mixed));
         on_a_longer_record(long_with_loss(loss, 6, 300_000, Mix::Long));
     }
-    on_a_longer_record(long_with_weights(8, 300_000));
-    on_a_longer_record(long_widened(9, 300_000, Mix::Mixed));
-    on_a_longer_record(long_widened(10, 300_000, Mix::Resolution));
+    for (loss, size) in [
+        (None, 300_000),
+        (Some(7), 100_000),
+        (Some(u32::MAX), 100_000),
+    ] {
+        on_a_longer_record(long_with_weights(loss, 8, size));
+        on_a_longer_record(long_widened(loss, 9, size, Mix::Mixed));
+        on_a_longer_record(long_widened(loss, 10, size, Mix::Resolution));
+    }
 }
 
 fn on_a_longer_record(sample: Sample) {
@@ -258,8 +262,10 @@ fn on_longer_records_with_one_byte_changed() {
         .map(|(seed, mix)| samples::long(seed, 50_000, mix))
         .to_vec();
     // Shorter, because the reference checker takes its time over weights.
-    long.push(long_with_weights(12, 12_000));
-    long.push(long_widened(13, 50_000, Mix::Resolution));
+    long.push(long_with_weights(None, 12, 12_000));
+    long.push(long_widened(None, 13, 50_000, Mix::Resolution));
+    long.push(long_with_weights(Some(u32::MAX), 14, 8_000));
+    long.push(long_widened(Some(9), 15, 20_000, Mix::Mixed));
     for Sample { sheet, record, .. } in long {
         let mut changed = record.clone();
         for i in 0..CHANGES {
@@ -303,6 +309,37 @@ fn on_largest_weights() {
             let answer = judge(&sheet, &changed);
             assert_eq!((answer.number, answer.place), (24, step));
         }
+    }
+}
+
+/// The sums of all costs and the loss, where these are as large as can be, in each kind of bound that has them.
+#[test]
+fn on_the_greatest_cost() {
+    let mut met = Tally::default();
+    for (sample, wanted) in greatest::samples() {
+        let Sample {
+            sheet,
+            record,
+            aimed,
+        } = sample;
+        let outcome = same(&sheet, &record, aimed);
+        assert_eq!(outcome, wanted, "{aimed}");
+        let answer = judge(&sheet, &record);
+        match outcome {
+            Outcome::Least => assert_eq!(answer.cost, greatest::COST),
+            Outcome::Refused(11) => assert_eq!(answer.place, 0),
+            _ => assert_eq!(answer.place, 1),
+        }
+        met.add(outcome);
+    }
+    for (outcome, count) in [
+        (Outcome::Least, 3),
+        (Outcome::Refused(11), 12),
+        (Outcome::Refused(13), 4),
+        (Outcome::Refused(15), 4),
+        (Outcome::Refused(24), 4),
+    ] {
+        assert_eq!(met.of(outcome), count, "{outcome}");
     }
 }
 

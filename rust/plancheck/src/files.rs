@@ -181,7 +181,8 @@ pub fn laid_out<'a>(path: &Path, sheet: &[u8], bytes: &'a [u8]) -> Result<Record
             let place = answer.place as usize;
             let byte = record.filter(|_| answer.number == 7);
             let byte = byte.map_or(0, |record| record.steps.pair_place(place));
-            Err(refused(path, byte, &answer, is_marked(sheet)))
+            // What a record is laid out like does not hang on the sheet's mark, and neither does what is said of it.
+            Err(refused(path, byte, &answer, false))
         }
     }
 }

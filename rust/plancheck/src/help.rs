@@ -69,13 +69,13 @@ Writes a valid sheet, or a record whose head and pairs are right, as lines to re
 
   sheet                          record
   cost 1 3                       variables 2
-  loss 4                         claim 3                             or: claim none
+  loss 4                         claim 7                             or: claim none
   clause 1 -2                    assign 1                            the variables that are true
                                  copy 1 : 1 2 bound none             clause 1
-                                 cost : -1 bound 3
-                                 independent 1 2 : -3 bound 5        clauses 1 and 2
+                                 cost : -1 bound 7
+                                 independent 1 2 : -3 bound 9        clauses 1 and 2
                                  resolve 1 2 on 2 : 1 bound none     steps 1 and 2, pivot 2
-                                 weighted 1*3 2*4 over 2 : bound 4   clause 1 of weight 3, clause 2 of weight 4, divisor 2
+                                 weighted 1*3 2*4 over 2 : bound 8   clause 1 of weight 3, clause 2 of weight 4, divisor 2
                                  raw 09 00                           bytes that are no step
 
 A literal is a variable's number, negative for a negative literal. # begins a comment. 'assign raw' and bytes stand for an
@@ -88,7 +88,7 @@ plancheck pack TEXT -o FILE
 
 Turns the text of a sheet or of a record into the file. See 'plancheck text --help' for the lines. Faults name the line.
 What the file's fields can hold is written, right or wrong; 'plancheck judge' says which. The number of variables has 15 bits,
-so that 32767 costs are the most: the highest bit of its field is the mark.
+so that 32767 are the most, of a sheet and of its record: the highest bit of its field is the mark.
 ";
 
 pub const WRITE: &str = "\
@@ -99,7 +99,7 @@ by the codes of their literals, a clause before those that begin with it, each c
 -v has 2 v + 1. A mark whose loss is 0 is left out, and one with a loss stays. Sheets with the same variables, costs, loss and
 set of clauses come out byte for byte alike, and no others do. A sheet that is canonical already stays as it is.
 
-Clauses get other numbers, and a record cites them by number: it keeps to the sheet that it was made for. OUT may be SHEET
+Clauses may get other numbers, and a record cites them by number: it keeps to the sheet that it was made for. OUT may be SHEET
 itself, but a record that was made for the old sheet loses it then. So keep that sheet beside its record, or plan the canonical
 one.
 

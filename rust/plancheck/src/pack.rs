@@ -7,7 +7,7 @@ use planner::format::{self, MARK};
 use planner::{Literal, Problem};
 
 /// The greatest n that a field without a mark can tell: one more would be read as the mark.
-const MOST_COUNTED: usize = MARK as usize - 1;
+const MOST_COUNTED: u64 = MARK as u64 - 1;
 
 /// What a text turned out to be.
 #[derive(Clone, Copy, Debug, PartialEq, Eq)]
@@ -109,10 +109,7 @@ fn cost(words: &mut Words, before: &Problem) -> Result<u32, Fault> {
         return Err(words.fault("costs stand before the loss"));
     }
     let due = before.variables() + 1;
-    if due > MOST_COUNTED {
-        let most = format!("a sheet counts to {MOST_COUNTED} variables at most: n has 15 bits, and the highest bit of its field is the mark");
-        return Err(words.fault(most));
-    }
+    counted(words, due as u64)?;
     let variable = words.number("the variable", u64::from(u16::MAX))?;
     if variable != due as u64 {
         return Err(words.fault(format!("the cost of variable {due} is due")));
@@ -120,6 +117,15 @@ fn cost(words: &mut Words, before: &Problem) -> Result<u32, Fault> {
     let cost = words.number("the cost", u64::from(u32::MAX))?;
     words.end()?;
     Ok(cost as u32)
+}
+
+/// A fault where no sheet can count to so many variables. A record has as many as its sheet.
+fn counted(words: &Words, variables: u64) -> Result<(), Fault> {
+    if variables > MOST_COUNTED {
+        let most = format!("a sheet counts to {MOST_COUNTED} variables at most: n has 15 bits, and the highest bit of its field is the mark");
+        return Err(words.fault(most));
+    }
+    Ok(())
 }
 
 /// `loss LOSS`, which makes it a marked sheet. It stands where the file has it.

@@ -4,7 +4,8 @@ use crate::bodies::Bodies;
 use crate::record::Record;
 use crate::sheet::Sheet;
 use crate::{steps, text, weighted};
-use planner::{Reason, Step};
+use planner::bounds::{cost_bound, independent_bound};
+use planner::{Literal, Reason, Step};
 
 /// A citation of more clauses than this is cut when shown.
 pub const MOST: usize = 24;
@@ -68,7 +69,11 @@ pub fn cited_lines(sheet: &Sheet, record: &Record, number: usize) -> Vec<String>
     match &step.reason {
         Reason::Copy { clause } => vec![clause_line(sheet, *clause as usize)],
         Reason::Cost => paid_lines(sheet, &step),
-        Reason::Independent { clauses } => added_lines(sheet, &step, clauses),
+        Reason::Independent { clauses } => {
+            let mut lines = added_lines(sheet, &step, clauses);
+            lines.extend(sum_line(sheet, &step, clauses));
+            lines
+        }
         Reason::Resolution {
             positive, negative, ..
         } => [*positive, *negative]
@@ -106,6 +111,28 @@ pub fn added_lines(sheet: &Sheet, step: &Step, clauses: &[u32]) -> Vec<String> {
         lines.push(format!("and {} clauses more", clauses.len() - MOST));
     }
     lines
+}
+
+/// What an independent set comes to, told of a marked sheet as a cost step's sum is. Nothing where the step is no such set.
+fn sum_line(sheet: &Sheet, step: &Step, clauses: &[u32]) -> Option<String> {
+    if !sheet.marked || clauses.is_empty() || !are_in_form(sheet, &step.literals, clauses) {
+        return None;
+    }
+    let problem = sheet.problem()?;
+    let sum = independent_bound(&problem, &step.literals, clauses)?;
+    let added = sum - cost_bound(&problem, &step.literals);
+    Some(format!("clauses add {added}; together {sum}"))
+}
+
+/// Whether literals and cited clauses rise and are the sheet's.
+pub fn are_in_form(sheet: &Sheet, literals: &[Literal], cited: &[u32]) -> bool {
+    let rising = literals.is_sorted_by(|a, b| a.variable() < b.variable());
+    let known = literals
+        .last()
+        .is_none_or(|l| l.variable() <= sheet.variables);
+    let clauses = 1..=sheet.clauses.count() as u32;
+    let cited_rise = cited.is_sorted_by(|a, b| a < b);
+    rising && known && cited_rise && cited.iter().all(|number| clauses.contains(number))
 }
 
 /// What the variables cost that making the step's literals false makes true, and the loss.

@@ -2,7 +2,7 @@
 //!
 //! Nothing is decided here: the table shows how the bound comes about that the proved checker compares.
 
-use crate::places::{clause_line, MOST};
+use crate::places::{are_in_form, clause_line, MOST};
 use crate::sheet::Sheet;
 use planner::Literal;
 use std::collections::BTreeMap;
@@ -96,12 +96,8 @@ impl Sum {
         divisor: u16,
         weights: &[(u32, u16)],
     ) -> Option<Sum> {
-        let rising = literals.is_sorted_by(|a, b| a.variable() < b.variable());
-        let known = literals
-            .last()
-            .is_none_or(|l| l.variable() <= sheet.variables);
-        let cited_rise = weights.is_sorted_by(|(a, _), (b, _)| a < b);
-        if divisor == 0 || !rising || !known || !cited_rise {
+        let cited: Vec<u32> = weights.iter().map(|(clause, _)| *clause).collect();
+        if divisor == 0 || !are_in_form(sheet, literals, &cited) {
             return None;
         }
         let (entries, held) = held(sheet, literals, weights)?;

@@ -89,7 +89,7 @@ impl Weighted<'_> {
         let others: Vec<_> = others.copied().collect();
         let bound = self.bound_with(&others)?;
         let without = match others.is_empty() {
-            // Without clauses the costs made true are left, whatever they are divided by.
+            // Without clauses the costs made true and the loss are left, whatever the divisor.
             true => format!("mend: make it a cost step, which cites nothing; bound {bound} then"),
             false => format!("mend: {divided}do not cite {clauses}; bound {bound} then"),
         };

@@ -9,7 +9,7 @@ use plancheck::explain::explain;
 use plancheck::pack::{pack, Packed};
 use plancheck::sheet::Sheet;
 use plancheck::text::write_sheet;
-use planner::format::{self, Bodies, MARK};
+use planner::format::{self, Bodies};
 use planner::random::Random;
 use planner::{Literal, Problem, Reason, Step, NONE};
 use samples::examples::{example, Example};
@@ -72,7 +72,7 @@ fn marked_sheets_come_back() {
 fn drawn_sheets_come_back() {
     let mut random = Random::new(31);
     for _ in 0..300 {
-        let problem = drawn(&mut random);
+        let problem = sheets::small(&mut random);
         let sheet = format::sheet(&problem);
         let text = text(&sheet);
         let lines = text.lines().filter(|line| line.starts_with("loss "));
@@ -122,7 +122,15 @@ fn n_has_15_bits() {
     let fault = pack(&text(32_768)).unwrap_err();
     let reason = "a sheet counts to 32767 variables at most: n has 15 bits, and the highest bit of its field is the mark";
     assert_eq!((fault.line, fault.reason.as_str()), (32_769, reason));
-    assert_eq!(u16::MAX - MARK, 32_767);
+    // A record has the number of its sheet's variables, and so the same limit.
+    let record =
+        |count: u64| format!("record\nvariables {count}\nclaim 0\nassign\ncost : bound 0\n");
+    let assignment = 32_767_usize.div_ceil(8);
+    assert_eq!(packed(&record(32_767)).len(), 12 + assignment + 8 + 12);
+    for count in [32_768, 65_535, 65_536, u64::MAX] {
+        let fault = pack(&record(count)).unwrap_err();
+        assert_eq!((fault.line, fault.reason.as_str()), (2, reason));
+    }
     // The number of clauses keeps its 16 bits.
     let clauses = |count| packed(&format!("sheet\n{}", "clause\n".repeat(count)));
     assert_eq!(clauses(65_535)[2..4], [0xFF, 0xFF]);
@@ -222,7 +230,8 @@ costs made true: variable 6 costs 6; loss 4
 clause 1 (sheet, byte 56): 1 3 5
   costs there: variable 1 costs 1, variable 3 costs 3, variable 5 costs 5
 clause 2 (sheet, byte 62): 2 4 5 -6
-  costs there: variable 2 costs 2, variable 4 costs 4, variable 5 costs 5, variable 6 costs 6";
+  costs there: variable 2 costs 2, variable 4 costs 4, variable 5 costs 5, variable 6 costs 6
+clauses add 3; together 13";
     let wanted =
         format!("{CLOSE}step 1 (record, byte 21): {right}\nclaim (record, byte 0): 5\n{sum}");
     assert_eq!(explained(C, HEAD, right), wanted);
@@ -235,8 +244,30 @@ clause 2 (sheet, byte 62): 2 4 5 -6
     // Nothing is settled true.
     let told = explained(C, HEAD, "independent 1 : bound 5");
     let wanted = "\nnothing is made true; loss 4\nclause 1 (sheet, byte 56): 1 3 5\n  \
-        costs there: variable 1 costs 1, variable 3 costs 3, variable 5 costs 5";
+        costs there: variable 1 costs 1, variable 3 costs 3, variable 5 costs 5\nclauses add 1; together 5";
     assert!(told.ends_with(wanted), "{told}");
+}
+
+/// There is no sum of what is no independent set, and none beside the costs of a sheet without a loss.
+#[test]
+fn no_other_step_that_cites_clauses_has_that_sum() {
+    let plain = C.replace("loss 4\n", "");
+    for (sheet, step, number) in [
+        (C, "independent : bound 4", 8),
+        (C, "independent 1 : 4 2 bound 5", 8),
+        (C, "independent 1 : 7 bound 5", 8),
+        (C, "independent 2 1 : 5 -6 bound 13", 9),
+        (C, "independent 1 4 : bound 5", 9),
+        (C, "independent 1 : -1 bound 5", 14),
+        (&plain, "independent 1 2 : 5 -6 bound 8", 15),
+    ] {
+        let told = explained(sheet, "claim none\nassign\n", step);
+        assert!(
+            told.starts_with(&format!("refused {number} at 1\n")),
+            "{told}"
+        );
+        assert!(!told.contains("together"), "{told}");
+    }
 }
 
 /// Where the step is no independent set, the loss is one of the costs that are left to show.
@@ -374,14 +405,6 @@ fn a_refused_marked_sheet_is_told_by_every_command() {
     }
 }
 
-/// A small problem, three of four marked.
-fn drawn(random: &mut Random) -> Problem {
-    let mut problem = sheets::small(random);
-    let losses = [None, Some(0), Some(random.below(40) as u32), Some(u32::MAX)];
-    problem.loss = losses[random.below(4)];
-    problem
-}
-
 /// An assignment, and a cost step that makes some of it true and false. Its bound is above every sum.
 fn drawn_step(problem: &Problem, random: &mut Random) -> (Vec<bool>, Step) {
     let values = (0..problem.variables()).map(|_| random.percent(50));
@@ -413,7 +436,7 @@ fn told_sums_are_the_ones_due() {
     let mut random = Random::new(41);
     let (mut claims, mut bounds) = (0, 0);
     for _ in 0..600 {
-        let problem = drawn(&mut random);
+        let problem = sheets::small(&mut random);
         let (values, mut step) = drawn_step(&problem, &mut random);
         let (number, sum) = told(&problem, NONE - 1, &values, &step);
         // Where no assignment is right, the clauses are told before the claim.
@@ -432,4 +455,44 @@ fn told_sums_are_the_ones_due() {
         }
     }
     assert!(claims > 100 && bounds == claims, "{claims}, {bounds}");
+}
+
+/// Some literals, mostly positive, and some clauses. The bound is above every sum.
+fn drawn_set(problem: &Problem, random: &mut Random) -> Step {
+    let literals = (1..=problem.variables()).filter_map(|variable| {
+        let literal = Literal::new(variable, random.percent(70));
+        random.percent(25).then_some(literal)
+    });
+    let literals = literals.collect();
+    let cited = (1..=problem.clauses.len() as u32).filter(|_| random.percent(20));
+    let clauses = cited.collect();
+    Step {
+        literals,
+        bound: NONE - 1,
+        reason: Reason::Independent { clauses },
+    }
+}
+
+/// The same of independent sets.
+#[test]
+fn told_sums_of_independent_sets_are_the_ones_due() {
+    let mut random = Random::new(43);
+    let (mut marked, mut larger) = (0, 0);
+    for _ in 0..4_000 {
+        let problem = sheets::small(&mut random);
+        let nothing = vec![false; problem.variables()];
+        let mut step = drawn_set(&problem, &mut random);
+        let (number, sum) = told(&problem, NONE, &nothing, &step);
+        let due = number == 15 && problem.loss.is_some();
+        assert_eq!(sum.is_some(), due, "{problem:?} {step:?}");
+        if let Some(bound) = sum {
+            step.bound = bound;
+            assert_eq!(told(&problem, NONE, &nothing, &step), (19, Some(bound)));
+            marked += 1;
+            let several =
+                matches!(&step.reason, Reason::Independent { clauses } if clauses.len() > 1);
+            larger += usize::from(several);
+        }
+    }
+    assert!(marked > 100 && larger > 20, "{marked}, {larger}");
 }

@@ -4,23 +4,37 @@ mod common;
 
 use common::{code, complained, printed, Folder};
 use plancheck::import::import;
-use planner::format;
 use planner::random::Random;
+use planner::{format, search, Problem, NONE};
 use samples::examples::example;
 use samples::sheets;
+
+/// What a plan costs by the one that is made without the loss.
+fn least_cost(problem: &Problem) -> u64 {
+    let without = Problem {
+        loss: None,
+        ..problem.clone()
+    };
+    match search::plan(&without).claim {
+        NONE => NONE,
+        cost => cost + problem.standing_loss(),
+    }
+}
 
 #[test]
 fn planned_sheets_are_accepted() {
     let folder = Folder::new("plan");
     let mut random = Random::new(7);
-    for round in 0..30 {
+    for round in 0..40 {
         let mut problem = match round % 10 {
             8 => sheets::middle(&mut random),
             9 => sheets::wide(&mut random),
             _ => sheets::small(&mut random),
         };
-        problem.loss = [None, Some(0), Some(6), Some(u32::MAX)][round % 4];
+        // In turn, and moved on by one in each ten, so that the few large problems meet every sort too.
+        problem.loss = [None, Some(0), Some(6), Some(u32::MAX)][(round + round / 10) % 4];
         folder.write("sheet", format::sheet(&problem));
+        let least = least_cost(&problem);
         let ways: &[&[&str]] = match problem.variables() {
             1..=8 => &[&["plan"], &["plan", "--unweighted"], &["plan", "--tree"]],
             _ => &[&["plan"], &["plan", "--unweighted"]],
@@ -29,7 +43,7 @@ fn planned_sheets_are_accepted() {
             let planned = folder.run(&[way, &["sheet", "-o", "record"][..]].concat());
             let answer = proved::judge(&folder.read("sheet"), &folder.read("record"));
             assert!(answer.accepts());
-            assert!(answer.cost >= problem.standing_loss());
+            assert_eq!(answer.cost, least);
             let line = answer.line() + "\n";
             assert_eq!((printed(&planned), code(&planned)), (line, 0));
             let shown = printed(&folder.run(&["text", "--record", "sheet", "record"]));

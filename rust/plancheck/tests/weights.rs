@@ -455,11 +455,10 @@ fn mends_mend() {
     let mut random = Random::new(23);
     let mut met: BTreeMap<(u64, String), usize> = BTreeMap::new();
     for _ in 0..400 {
-        let mut problem = sheets::small(&mut random);
+        let problem = sheets::small(&mut random);
         if problem.clauses.is_empty() {
             continue;
         }
-        problem.loss = [None, Some(0), Some(3), Some(u32::MAX)][random.below(4)];
         for _ in 0..20 {
             let step = drawn(&problem, &mut random);
             for way in mends_of(&problem, &step) {

@@ -8,9 +8,9 @@ use crate::problem::{Literal, Problem, NONE};
 pub enum Reason {
     /// Kind 1: a clause of the sheet.
     Copy { clause: u32 },
-    /// Kind 2: the true variables cost that much.
+    /// Kind 2: the true variables and the standing loss cost that much.
     Cost,
-    /// Kind 3: independent clauses add their least costs.
+    /// Kind 3: independent clauses add their least costs to what kind 2 has.
     Independent { clauses: Vec<u32> },
     /// Kind 4: `positive` holds the pivot as a positive literal, `negative` as a negative one. The step holds what is left of
     /// both at least, and its bound is the lesser of theirs at most.

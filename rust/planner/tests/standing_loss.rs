@@ -3,17 +3,12 @@
 
 mod common;
 
-use common::{accepted, problem, Shape, LOSSES};
+use common::{accepted, clause, problem, Shape, LOSSES};
 use planner::bounds::{cost_bound, independent_bound, linear_bound, linear_total};
 use planner::padding::{Mix, Padding};
 use planner::random::Random;
 use planner::search::{plan_by, plan_in, Bounds};
 use planner::{format, tree, Literal, Plan, Problem, Step, MOST_VARIABLES, NONE};
-
-fn clause(literals: &[i32]) -> Vec<Literal> {
-    let read = |literal: &i32| Literal::new(literal.unsigned_abs() as usize, *literal > 0);
-    literals.iter().map(read).collect()
-}
 
 /// Any two of three variables are a clause.
 fn triangle(loss: Option<u32>) -> Problem {

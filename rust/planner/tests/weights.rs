@@ -2,16 +2,11 @@
 
 mod common;
 
-use common::{accepted, problem, Shape, LOSSES};
+use common::{accepted, clause, problem, Shape, LOSSES};
 use planner::bounds::{cost_bound, linear_bound, linear_total};
 use planner::random::Random;
 use planner::search::{plan_by, plan_within, Bounds};
 use planner::{search, Literal, Plan, Problem, Reason, Step, NONE};
-
-fn clause(literals: &[i32]) -> Vec<Literal> {
-    let read = |literal: &i32| Literal::new(literal.unsigned_abs() as usize, *literal > 0);
-    literals.iter().map(read).collect()
-}
 
 fn shape(variables: usize, clauses: usize, positive: usize, dearest: usize) -> Shape {
     Shape {

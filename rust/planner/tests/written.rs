@@ -1,12 +1,10 @@
 //! The bytes of a small sheet and record, and the sheet of eight clauses planned both ways.
 
-use planner::certificate::Certificate;
-use planner::{format, search, tree, Literal, Plan, Problem, Reason};
+mod common;
 
-fn clause(literals: &[i32]) -> Vec<Literal> {
-    let read = |literal: &i32| Literal::new(literal.unsigned_abs() as usize, *literal > 0);
-    literals.iter().map(read).collect()
-}
+use common::clause;
+use planner::certificate::Certificate;
+use planner::{format, search, tree, Plan, Problem, Reason};
 
 fn two_clauses() -> Problem {
     Problem {

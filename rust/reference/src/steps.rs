@@ -15,7 +15,7 @@ use std::collections::BTreeSet;
 pub(crate) enum Inference {
     /// Kind 1: a clause of the sheet, by its number.
     Clause(u64),
-    /// Kind 2: the costs alone.
+    /// Kind 2: the costs, and the standing loss, without any clause.
     Cost,
     /// Kind 3: clauses of the sheet that form an independent set, by their numbers.
     IndependentSet(Vec<u64>),

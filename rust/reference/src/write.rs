@@ -21,7 +21,7 @@ pub struct Written {
 /// Writes the sheet with its clauses in order, each once, and without a mark whose loss is 0, to the start of the
 /// buffer. The bytes past what is written stay, and with a refusal the whole buffer does.
 ///
-/// Clauses get other numbers by this, so a record of the sheet is none of the written one.
+/// Clauses may get other numbers by this, so a record of the sheet need not be one of the written sheet.
 pub fn write_sheet(sheet: &[u8], out: &mut [u8]) -> Written {
     match unrefused(sheet, out.len()) {
         Ok(bytes) => {

@@ -5,6 +5,7 @@
 pub mod damage;
 pub mod draft;
 pub mod examples;
+pub mod greatest;
 pub mod outcome;
 pub mod random;
 pub mod sheets;
@@ -78,12 +79,13 @@ pub fn long_with_loss(loss: Option<u32>, seed: u64, size: usize, mix: Mix) -> Sa
     }
 }
 
-/// The same of all kinds, and more than half of it steps of kind 5 with weights of every sort. The sheet is smaller, since
+/// A long sample of all kinds, and more than half of it steps of kind 5 with weights of every sort. The sheet is smaller, since
 /// such a step may cite all of it.
-pub fn long_with_weights(seed: u64, size: usize) -> Sample {
+pub fn long_with_weights(loss: Option<u32>, seed: u64, size: usize) -> Sample {
     let mut random = Random::new(seed);
     let shape = sheets::middle_shape(&mut random);
-    let problem = sheets::problem(&shape, &mut random);
+    let mut problem = sheets::problem(&shape, &mut random);
+    problem.loss = loss;
     let plan = search::plan(&problem);
     let record = long::record(&problem, &plan, seed, size * 2 / 5, Mix::Mixed);
     let mut draft = drafted(&problem, &record);
@@ -92,9 +94,10 @@ pub fn long_with_weights(seed: u64, size: usize) -> Sample {
 }
 
 /// A long sample whose resolutions were made wider than they have to be, by which the record has grown.
-pub fn long_widened(seed: u64, size: usize, mix: Mix) -> Sample {
+pub fn long_widened(loss: Option<u32>, seed: u64, size: usize, mix: Mix) -> Sample {
     let mut random = Random::new(seed);
-    let problem = sheets::problem(&sheets::ROOMY, &mut random);
+    let mut problem = sheets::problem(&sheets::ROOMY, &mut random);
+    problem.loss = loss;
     let plan = search::plan(&problem);
     let mut draft = drafted(&problem, &long::record(&problem, &plan, seed, size, mix));
     widening::records::widen(&mut draft, &mut random);

@@ -93,6 +93,21 @@ pub fn some_loss(random: &mut Random) -> Option<u32> {
     }
 }
 
+/// The sorts of losses that are drawn.
+pub const LOSS_SORTS: [&str; 5] = ["no mark", "0", "small", "any", "largest"];
+
+/// Which of them a loss is.
+pub fn loss_sort(loss: Option<u32>) -> &'static str {
+    let place = match loss {
+        None => 0,
+        Some(0) => 1,
+        Some(1..=9) => 2,
+        Some(u32::MAX) => 4,
+        Some(_) => 3,
+    };
+    LOSS_SORTS[place]
+}
+
 /// A problem of the shape, and a loss or none. It is drawn last, so that the rest is what it would be without.
 fn with_some_loss(shape: &Shape, random: &mut Random) -> Problem {
     let mut problem = problem(shape, random);

@@ -1,5 +1,5 @@
-//! Steps of kind 5, whose bounds rest on weights of clauses: their tails taken apart, and the bound that change 2 of document
-//! 02 gives them. It is computed in numbers so wide that no sheet's sums come near their ends.
+//! Steps of kind 5, whose bounds rest on weights of clauses: their tails taken apart, and the bound that changes 2 and 7 of
+//! document 02 give them. It is computed in numbers so wide that no sheet's sums come near their ends.
 
 pub mod ascent;
 pub mod branch;

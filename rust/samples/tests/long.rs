@@ -66,7 +66,7 @@ fn long_records_are_accepted() {
 
 #[test]
 fn long_records_with_weights_are_accepted() {
-    let sample = long_with_weights(11, SIZE);
+    let sample = long_with_weights(None, 11, SIZE);
     let answer = reference::judge(&sample.sheet, &sample.record);
     let (kinds, count, _) = kinds(&sample);
     println!(
@@ -83,7 +83,7 @@ fn long_records_with_weights_are_accepted() {
 #[test]
 fn long_records_with_wider_resolutions_are_accepted() {
     for (seed, mix) in [(12, Mix::Mixed), (13, Mix::Resolution)] {
-        let sample = long_widened(seed, SIZE, mix);
+        let sample = long_widened(None, seed, SIZE, mix);
         let answer = reference::judge(&sample.sheet, &sample.record);
         let (kinds, count, _) = kinds(&sample);
         let wider = widening::passed(&sample, &answer);
@@ -101,8 +101,8 @@ fn long_records_with_wider_resolutions_are_accepted() {
 #[test]
 fn same_seed_same_long_record() {
     assert_eq!(long(7, 200_000, Mix::Mixed), long(7, 200_000, Mix::Mixed));
-    let weighted = || long_with_weights(7, 200_000);
+    let weighted = || long_with_weights(None, 7, 200_000);
     assert_eq!(weighted(), weighted());
-    let widened = || long_widened(7, 200_000, Mix::Mixed);
+    let widened = || long_widened(None, 7, 200_000, Mix::Mixed);
     assert_eq!(widened(), widened());
 }

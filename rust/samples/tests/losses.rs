@@ -5,7 +5,7 @@ mod common;
 
 use common::{changed_steps, judged, some_draft};
 use planner::padding::{Kind, Mix};
-use planner::{format, search, MOST_VARIABLES};
+use planner::{format, search, MOST_VARIABLES, NONE};
 use samples::damage::{self, Damage};
 use samples::draft::{code_bytes, read_u16, sheet_parts, Body, Draft, Files, Head};
 use samples::examples::example;
@@ -16,19 +16,6 @@ use samples::{
     long, long_widened, long_with_loss, long_with_weights, sheets, stream, widening, Sample,
 };
 use std::collections::BTreeMap;
-
-const NONE: u64 = u64::MAX;
-
-/// The loss of a valid sheet, by its sort.
-fn sort(sheet: &[u8]) -> &'static str {
-    match sheet_parts(sheet).expect("a valid sheet").loss {
-        None => "none",
-        Some(0) => "0",
-        Some(1..=9) => "small",
-        Some(u32::MAX) => "largest",
-        Some(_) => "any",
-    }
-}
 
 /// As many variables as there may be, and every one of them and the loss as dear.
 fn is_dearest(sheet: &[u8]) -> bool {
@@ -45,12 +32,13 @@ fn losses_of_every_sort_are_met() {
             continue;
         }
         let answer = reference::judge(&sample.sheet, &sample.record);
-        let key = (sort(&sample.sheet), answer.refuses());
+        let parts = sheet_parts(&sample.sheet).expect("a valid sheet");
+        let key = (sheets::loss_sort(parts.loss), answer.refuses());
         *met.entry(key).or_default() += 1;
     }
     println!("by the loss, and whether it is refused: {met:?}");
     for refused in [false, true] {
-        let counts = ["none", "0", "small", "any", "largest"].map(|sort| met[&(sort, refused)]);
+        let counts = sheets::LOSS_SORTS.map(|sort| met[&(sort, refused)]);
         let all: usize = counts.iter().sum();
         assert!((40..60).contains(&(100 * counts[0] / all)), "{counts:?}");
         assert!(counts.iter().all(|count| 20 * count > all), "{counts:?}");
@@ -83,26 +71,28 @@ const SAID: [(&str, Said); 25] = [
     }),
     ("11 claim without the loss", |before, after| {
         let [right, wrong] = claims(before, after);
-        lost(after) > 0 && right == wrong + lost(after)
+        after.standing_loss() > 0 && right == wrong + after.standing_loss()
     }),
     ("11 claim with the loss twice", |before, after| {
         let [right, wrong] = claims(before, after);
-        lost(after) > 0 && wrong == right + lost(after)
+        after.standing_loss() > 0 && wrong == right + after.standing_loss()
     }),
     ("11 loss changed", |before, after| {
-        before.loss.is_some() && after.loss.is_some() && lost(before) != lost(after)
+        before.loss.is_some()
+            && after.loss.is_some()
+            && before.standing_loss() != after.standing_loss()
     }),
     ("11 mark and a loss added", |before, after| {
-        before.loss.is_none() && lost(after) > 0
+        before.loss.is_none() && after.standing_loss() > 0
     }),
     ("11 mark and its loss taken away", |before, after| {
-        lost(before) > 0 && after.loss.is_none()
+        before.standing_loss() > 0 && after.loss.is_none()
     }),
     ("12 loss as the bound", |before, after| {
-        one_bound(before, after) == [NONE, lost(after)]
+        one_bound(before, after) == [NONE, after.standing_loss()]
     }),
     ("12 none and the loss in 64 bits", |before, after| {
-        one_bound(before, after) == [NONE, lost(after) - 1]
+        one_bound(before, after) == [NONE, after.standing_loss() - 1]
     }),
     ("13 bound without the loss", is_without),
     ("15 bound without the loss", is_without),
@@ -113,23 +103,23 @@ const SAID: [(&str, Said); 25] = [
     ("15 loss for each clause", |before, after| {
         let [right, wrong] = one_bound(before, after);
         let cited = changed_steps(before, after)[0].cited().len() as u64;
-        cited > 1 && wrong - right == (cited - 1) * lost(after)
+        cited > 1 && wrong - right == (cited - 1) * after.standing_loss()
     }),
     ("18 loss added to the lesser", |before, after| {
         let step = changed_steps(before, after).remove(0);
         let needed = widening::Needed::of(after, &step).unwrap();
-        lost(after) > 0 && step.bound == needed.bound + lost(after)
+        after.standing_loss() > 0 && step.bound == needed.bound + after.standing_loss()
     }),
     ("24 loss before the division", |before, after| {
         let (step, total, divisor) = weighted(before, after);
-        let sum = (total + i128::from(lost(after))).max(0);
+        let sum = (total + i128::from(after.standing_loss())).max(0);
         let reached = |bound: i128| bound * divisor >= sum;
         let bound = i128::from(step.bound);
         reached(bound) && (bound == 0 || !reached(bound - 1))
     }),
     ("24 total below zero taken off the loss", |before, after| {
         let (step, total, divisor) = weighted(before, after);
-        let off = i128::from(lost(after)) - i128::from(step.bound);
+        let off = i128::from(after.standing_loss()) - i128::from(step.bound);
         total < 0 && off > 0 && (step.bound == 0 || off == -total / divisor)
     }),
     ("13 loss changed, and the claim with it", claim_follows),
@@ -144,7 +134,7 @@ const SAID: [(&str, Said); 25] = [
     ),
     (
         "accepted loss changed, and the record with it",
-        |before, after| lost(before) != lost(after) && is_dearer(before, after),
+        |before, after| before.standing_loss() != after.standing_loss() && is_dearer(before, after),
     ),
     (
         "accepted most variables and the largest loss",
@@ -154,10 +144,6 @@ const SAID: [(&str, Said); 25] = [
         },
     ),
 ];
-
-fn lost(draft: &Draft) -> u64 {
-    draft.loss.map_or(0, u64::from)
-}
 
 /// The claims, where nothing else is another.
 fn claims(before: &Draft, after: &Draft) -> [u64; 2] {
@@ -187,12 +173,12 @@ fn one_bound(before: &Draft, after: &Draft) -> [u64; 2] {
 
 fn is_without(before: &Draft, after: &Draft) -> bool {
     let [right, wrong] = one_bound(before, after);
-    lost(after) > 0 && right == wrong + lost(after)
+    after.standing_loss() > 0 && right == wrong + after.standing_loss()
 }
 
 fn is_twice(before: &Draft, after: &Draft) -> bool {
     let [right, wrong] = one_bound(before, after);
-    lost(after) > 0 && wrong == right + lost(after)
+    after.standing_loss() > 0 && wrong == right + after.standing_loss()
 }
 
 /// The changed step of kind 5, its total and its divisor.
@@ -207,7 +193,7 @@ fn weighted(before: &Draft, after: &Draft) -> (Body, i128, i128) {
 fn claim_follows(before: &Draft, after: &Draft) -> bool {
     let more = after.steps.len() == before.steps.len() + 1;
     let follows = before.claim == NONE || after.claim == after.assignment_cost();
-    more && follows && lost(before) != lost(after)
+    more && follows && before.standing_loss() != after.standing_loss()
 }
 
 fn same_answer(before: &Draft, after: &Draft) -> bool {
@@ -221,7 +207,7 @@ fn same_answer(before: &Draft, after: &Draft) -> bool {
 fn is_dearer(before: &Draft, after: &Draft) -> bool {
     let (mut wanted, answer) = (judged(before), judged(after));
     if wanted.cost != NONE {
-        wanted.cost = wanted.cost - lost(before) + lost(after);
+        wanted.cost = wanted.cost - before.standing_loss() + after.standing_loss();
     }
     wanted == answer
 }
@@ -318,8 +304,8 @@ fn long_samples_are_unmarked() {
         Mix::LongOf(Kind::Linear),
     ];
     let longs = longs.map(|mix| long(5, 20_000, mix)).into_iter();
-    let widened = [Mix::Mixed, Mix::Resolution].map(|mix| long_widened(5, 20_000, mix));
-    let weighted = (1..20).map(|seed| long_with_weights(seed, 20_000));
+    let widened = [Mix::Mixed, Mix::Resolution].map(|mix| long_widened(None, 5, 20_000, mix));
+    let weighted = (1..20).map(|seed| long_with_weights(None, seed, 20_000));
     for Sample { sheet, .. } in longs.chain(widened).chain(weighted) {
         assert!(!Head::read(&sheet).unwrap().is_marked);
     }
@@ -341,6 +327,23 @@ fn long_samples_may_have_a_loss() {
             judged(&with).accepts() && is_dearer(&without, &with),
             "{mix:?}"
         );
+    }
+}
+
+/// Weights and widening are drawn by the bounds, so that other steps may come of a loss; the sheet is the same but for it.
+#[test]
+fn other_long_samples_may_have_a_loss() {
+    let weighted = [None, Some(7)].map(|loss| long_with_weights(loss, 5, 20_000));
+    let widened = [None, Some(7)].map(|loss| long_widened(loss, 5, 20_000, Mix::Mixed));
+    for [plain, marked] in [weighted, widened] {
+        let [without, with] = [&plain, &marked].map(|sample| sheet_parts(&sample.sheet).unwrap());
+        assert_eq!((without.loss, with.loss), (None, Some(7)));
+        assert_eq!(without.costs, with.costs);
+        assert_eq!(without.clauses, with.clauses);
+        let [without, with] =
+            [plain, marked].map(|sample| reference::judge(&sample.sheet, &sample.record));
+        assert!(without.accepts() && with.accepts());
+        assert_eq!(without.cost + 7, with.cost);
     }
 }
 

@@ -69,6 +69,19 @@ kind2 =
 recordI : ℕ → List ℕ
 recordI bound = recordOf 7 (0x01 ∷ []) (independentStep [] bound (1 ∷ []) ∷ [])
 
+-- the costs 1, 2 and 3 and two clauses of one literal; a step of either kind that cites both, with a literal that costs 3
+sheetP : List ℕ
+sheetP = sheetOf 4 (1 ∷ 2 ∷ 3 ∷ []) (clause (positive 1 ∷ []) ∷ clause (positive 2 ∷ []) ∷ [])
+
+settling : List ℕ → ℕ → Case
+settling step number = record { sheet = sheetP; «record» = recordOf 7 (0x03 ∷ []) (step ∷ []); answer = refused number 1 }
+
+independentP : ℕ → List ℕ
+independentP bound = independentStep (negative 3 ∷ []) bound (1 ∷ 2 ∷ [])
+
+weightedP : ℕ → List ℕ
+weightedP bound = stepOf 5 (negative 3 ∷ []) bound (weightedTail 1 ((1, 1) ∷ (2, 2) ∷ []))
+
 -- two clauses of one literal each, at half their weight: the total is 3, which 2 divides to 2
 sheetK : List ℕ
 sheetK = sheetOf 4 (1 ∷ 2 ∷ []) (clause (positive 1 ∷ []) ∷ clause (positive 2 ∷ []) ∷ [])
@@ -95,13 +108,18 @@ kinds =
     ∷ record { sheet = sheetN; «record» = recordN 4; answer = accepted 4 0 1 }
     ∷ record { sheet = sheetN; «record» = recordN 3; answer = refused 24 1 }  -- the loss in the total
     ∷ record { sheet = sheetN; «record» = recordN 0; answer = refused 24 1 }
+    -- where literals are left the loss is in the bound too: the step passes, and does not close
+    ∷ settling (independentP 10) 19
+    ∷ settling (independentP 6) 15
+    ∷ settling (weightedP 10) 19
+    ∷ settling (weightedP 6) 24
     ∷ []
 
 -- ---- the head
 
--- n with the mark, one cost for each variable and a loss of so many bytes; no clause
+-- this first field, no clause, one cost, and so many bytes of loss
 headed : ℕ → ℕ → List ℕ
-headed n lost = bytesOf 2 n ++ bytesOf 2 0 ++ bytesOf 4 7 ++ replicate lost 0xFF
+headed field size = bytesOf 2 field ++ bytesOf 2 0 ++ bytesOf 4 7 ++ replicate size 0xFF
 
 recordB : ℕ → List ℕ
 recordB claimed = recordOf claimed (0x00 ∷ []) (costStep [] claimed ∷ [])
@@ -114,8 +132,16 @@ heads =
     ∷ record { sheet = headed 0x8001 1; «record» = recordB 4294967295; answer = refused 2 0 }
     ∷ record { sheet = headed 0x8001 0; «record» = recordB 4294967295; answer = refused 2 0 }  -- and before it
     ∷ record { sheet = headed 0x8001 5; «record» = recordB 4294967295; answer = refused 3 0 }  -- a byte too many
+    -- the lowest byte first
+    ∷ record { sheet = headed 0x8001 0 ++ (1 ∷ 2 ∷ 3 ∷ 4 ∷ []); «record» = recordB 67305985; answer = accepted 67305985 0 1 }
     ∷ record { sheet = headed 0x8000 4; «record» = recordB 4294967295; answer = refused 2 0 }  -- the mark and n 0
-    ∷ record { sheet = bytesOf 2 0x8401 ++ replicate 4106 0; «record» = recordB 0; answer = refused 2 0 }  -- and n 1,025
+    -- the mark and as many variables as there may be, and one more
+    ∷ record {
+      sheet = bytesOf 2 0x8400 ++ replicate 4102 0;
+      «record» = recordOf 0 (replicate 128 0) (costStep [] 0 ∷ []);
+      answer = accepted 0 0 1;
+    }
+    ∷ record { sheet = bytesOf 2 0x8401 ++ replicate 4106 0; «record» = recordB 0; answer = refused 2 0 }
     ∷ record { sheet = bytesOf 2 0xC001 ++ replicate 4106 0; «record» = recordB 0; answer = refused 2 0 }  -- the next bit is n's
     -- the greatest cost and the greatest loss
     ∷ record {
@@ -127,8 +153,8 @@ heads =
 
 -- ---- the mark gained and lost, under the same record
 
-turns : List Case
-turns =
+markTurned : List Case
+markTurned =
     record { sheet = sheetM; «record» = recordA; answer = accepted 3 1 5 }  -- a loss of 0 is none
     ∷ record { sheet = sheetA; «record» = recordA; answer = accepted 3 1 5 }
     ∷ record { sheet = sheetL; «record» = recordA; answer = refused 11 0 }
@@ -143,8 +169,8 @@ turns =
     }
     ∷ []
 
-losses : T (allRight (kind2 ++ kinds ++ heads ++ turns))
-unfolding bytesOf numbersOf pairsOf joined fileOf sheetOf stepOf recordOf entriesOf weightedTail none clause copyStep costStep independentStep resolutionStep sheetA recordA sheetL sheetM recordL kind2 recordI sheetK recordK sheetN recordN kinds headed recordB heads turns allRight
+losses : T (allRight (kind2 ++ kinds ++ heads ++ markTurned))
+unfolding bytesOf numbersOf pairsOf joined fileOf sheetOf stepOf recordOf entriesOf weightedTail none clause copyStep costStep independentStep resolutionStep sheetA recordA sheetL sheetM recordL kind2 recordI sheetK recordK sheetN recordN sheetP settling independentP weightedP kinds headed recordB heads markTurned allRight
 losses = tt
 
 -- of a step of kind 1 the clause's body is shown, which stands four bytes further on than in sheet A

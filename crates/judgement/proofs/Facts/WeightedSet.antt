@@ -1,5 +1,5 @@
 -- Kind 5: a step passes its tests exactly when its divisor and weights are not 0 and its bound is its total divided
--- by the divisor and rounded up, and the loss.
+-- by the divisor and rounded up, plus the loss.
 -- Assumes nothing.
 use Prim.Native.Nat.{ℕ, _+_, _*_, _%_, _≤_}
 use mathlib.Core.Path.{_≡_}
@@ -11,10 +11,10 @@ use lib.ListN.{length}
 use lib.Dec.{eqb}
 use borrow.Author.Tests.{eq-eqb, ne-eqb, eqb-true, eqb-false, le-leb, leb-true, not-true}
 use Rattle.judgement.specs.Scan.{allOf}
-use Rattle.judgement.specs.Meaning.{withLoss}
+use Rattle.judgement.specs.Integers.{roundedUp}
 use Rattle.judgement.specs.Number.{numberAt}
 use Rattle.judgement.specs.Finding.{_then_}
-use Rattle.judgement.specs.Sheet.{clauses, problemOf}
+use Rattle.judgement.specs.Sheet.{clauses}
 use Rattle.judgement.specs.declared.Kind.the-variants.{WeightedSet}
 use Rattle.judgement.specs.Step.{kindNumber, bound, tail, divisor, entryCount, entryCites, weight, tailFine, citesFine}
 use Rattle.judgement.specs.Linear.{total, linearCost, isWeighted, weightsFinding, linearBound}
@@ -51,11 +51,11 @@ weighted-is e h =
 
 -- ---- the bound
 
-pub bound-cover : (s b : List ℕ) → Weighted (tail b) → bound b ≡ withLoss (problemOf s) (linearCost s b) → BoundedByTotal s b
+pub bound-cover : (s b : List ℕ) → Weighted (tail b) → bound b ≡ linearCost s b → BoundedByTotal s b
 unfolding linearCost
-bound-cover s b h e = (linearCost s b, rounded-cover (total s b) (divisor (tail b)) (omega (arith, h .divides)), e)
+bound-cover s b h e = (roundedUp (total s b) (divisor (tail b)), rounded-cover (total s b) (divisor (tail b)) (omega (arith, h .divides)), e)
 
-pub cover-bound : (s b : List ℕ) → Weighted (tail b) → BoundedByTotal s b → bound b ≡ withLoss (problemOf s) (linearCost s b)
+pub cover-bound : (s b : List ℕ) → Weighted (tail b) → BoundedByTotal s b → bound b ≡ linearCost s b
 unfolding linearCost
 cover-bound s b h (x, rounded, e) = rw (← cover-rounded (total s b) (divisor (tail b)) x (omega (arith, h .divides)) rounded) e
 
@@ -92,12 +92,12 @@ linear-facts s b k kind (size, cites, fine) =
         cites = rises-rising (entryCites (tail b)) (clauses s) (entryCount (tail b)) cites;
       };
       weighted = weighted;
-      bounded = bound-cover s b weighted (eqb-true (bound b) (withLoss (problemOf s) (linearCost s b)) (search (need-true, then-r)));
+      bounded = bound-cover s b weighted (eqb-true (bound b) (linearCost s b) (search (need-true, then-r)));
     }
 
 pub facts-linear : (s b : List ℕ) (k : ℕ) → Linear s b → Passes WeightedSet s k b (weightsFinding b k then linearBound s b k)
 unfolding citesFine weightsFinding linearBound
 facts-linear s b k h =
     let weights = weighted-is (tail b) (h .weighted) in
-    let bound-is = eq-eqb (bound b) (withLoss (problemOf s) (linearCost s b)) (cover-bound s b (h .weighted) (h .bounded)) in
+    let bound-is = eq-eqb (bound b) (linearCost s b) (cover-bound s b (h .weighted) (h .bounded)) in
     (entries-tail b (h .citing .size) (h .citing .some), rising-rises (entryCites (tail b)) (clauses s) (entryCount (tail b)) (h .citing .cites), search (then-of, need-of))

@@ -8,12 +8,12 @@ use mathlib.Core.Logic.{_↔_, inl, inr}
 use native.Mathlib.Omega.{arith}
 use lib.Dec.{eqb}
 use borrow.Author.Tests.{ne-eqb, eqb-true, eqb-false, not-false}
-use Rattle.judgement.specs.Meaning.{variableOf, isPositive, opposite, withLoss}
+use Rattle.judgement.specs.Meaning.{variableOf, isPositive, opposite}
 use Rattle.judgement.specs.declared.Finding.{Finding}
 use Rattle.judgement.specs.declared.Finding.the-variants.{Fault}
 use Rattle.judgement.specs.Finding.{need, _then_}
 use Rattle.judgement.specs.Literals.{count, code, variable, holds}
-use Rattle.judgement.specs.Sheet.{clauses, problemOf}
+use Rattle.judgement.specs.Sheet.{clauses}
 use Rattle.judgement.specs.Record.{step}
 use Rattle.judgement.specs.declared.Kind.{Kind}
 use Rattle.judgement.specs.declared.Kind.the-variants.{Copy, Cost, IndependentSet, Resolvent, WeightedSet, Unknown}
@@ -155,20 +155,20 @@ unfolding independentBound
 set-refused s b k N P = (
   λ e. elim (then-found (dependence s b k) (independentBound s b k) N P e) [
     | inl d ↦ (let (place, first) = first-dependent s b k N P .0 d in (place, inl first))
-    | inr d ↦ other (eqb (bound b) (withLoss (problemOf s) (independentCost s b))) refl (d .0) (d .1)
+    | inr d ↦ other (eqb (bound b) (independentCost s b)) refl (d .0) (d .1)
   ],
   λ (place, refused). elim refused [
     | inl first ↦ rw (first-dependent s b k N P .1 (place, first))
     | inr f ↦
-        rw (place, f .0, fine-is (dependence s b k) (fits-dependence s b k (f .1)), ne-eqb (bound b) (withLoss (problemOf s) (independentCost s b)) (f .2))
+        rw (place, f .0, fine-is (dependence s b k) (fits-dependence s b k (f .1)), ne-eqb (bound b) (independentCost s b) (f .2))
   ],
 )
   where
-    other : (same : Bool) → eqb (bound b) (withLoss (problemOf s) (independentCost s b)) ≡ same → IsFine (dependence s b k) → need same 15 k ≡ Fault N P
+    other : (same : Bool) → eqb (bound b) (independentCost s b) ≡ same → IsFine (dependence s b k) → need same 15 k ≡ Fault N P
         → (P ≡ k) × RefusedIndependent s b N
     other true e fine q = absurd (not-fine q)
     other false e fine q =
-        (cc, inr (cc, dependence-fits s b k fine, eqb-false (bound b) (withLoss (problemOf s) (independentCost s b)) e))
+        (cc, inr (cc, dependence-fits s b k fine, eqb-false (bound b) (independentCost s b) e))
 
 -- ---- the judgement: no other kind has one of these numbers
 

@@ -11,8 +11,7 @@ use borrow.Author.Tests.{ne-eqb, eqb-true, eqb-false, not-false}
 use Rattle.judgement.specs.declared.Finding.{Finding}
 use Rattle.judgement.specs.declared.Finding.the-variants.{Fault}
 use Rattle.judgement.specs.Finding.{need, _then_}
-use Rattle.judgement.specs.Meaning.{withLoss}
-use Rattle.judgement.specs.Sheet.{clauses, problemOf}
+use Rattle.judgement.specs.Sheet.{clauses}
 use Rattle.judgement.specs.Record.{step}
 use Rattle.judgement.specs.declared.Kind.{Kind}
 use Rattle.judgement.specs.declared.Kind.the-variants.{Copy, Cost, IndependentSet, Resolvent, WeightedSet, Unknown}
@@ -49,9 +48,9 @@ found-zero e h = elim (and-false-e (not (eqb (divisor e) 0)) _ h) [
 
 linear-refused : (s b : List ℕ) (k N P : ℕ) → ((weightsFinding b k then linearBound s b k) ≡ Fault N P) ↔ ((P ≡ k) × RefusedLinear s b N)
 unfolding weightsFinding linearBound
-linear-refused s b k N P = (found (isWeighted (tail b)) (eqb (bound b) (withLoss (problemOf s) (linearCost s b))) refl refl, λ (place, refused). rw place (back refused))
+linear-refused s b k N P = (found (isWeighted (tail b)) (eqb (bound b) (linearCost s b)) refl refl, λ (place, refused). rw place (back refused))
   where
-    found : (x y : Bool) → isWeighted (tail b) ≡ x → eqb (bound b) (withLoss (problemOf s) (linearCost s b)) ≡ y
+    found : (x y : Bool) → isWeighted (tail b) ≡ x → eqb (bound b) (linearCost s b) ≡ y
         → (need x 23 k then need y 24 k) ≡ Fault N P → (P ≡ k) × RefusedLinear s b N
     found false y p q e = elim (found-zero (tail b) p) [
       | inl d ↦ ((cc), no-divisor (cc) d)
@@ -59,14 +58,14 @@ linear-refused s b k N P = (found (isWeighted (tail b)) (eqb (bound b) (withLoss
     ]
     found true false p q e =
         let weighted = is-weighted (tail b) p in
-        ((cc), other-bound (cc) weighted (λ c. eqb-false (bound b) (withLoss (problemOf s) (linearCost s b)) q (cover-bound s b weighted c)))
+        ((cc), other-bound (cc) weighted (λ c. eqb-false (bound b) (linearCost s b) q (cover-bound s b weighted c)))
     found true true p q e = absurd (not-fine e)
 
-    back : RefusedLinear s b N → (need (isWeighted (tail b)) 23 k then need (eqb (bound b) (withLoss (problemOf s) (linearCost s b))) 24 k) ≡ Fault N k
+    back : RefusedLinear s b N → (need (isWeighted (tail b)) 23 k then need (eqb (bound b) (linearCost s b)) 24 k) ≡ Fault N k
     back (no-divisor n d) = rw (n, false-i (isWeighted (tail b)) (λ p. is-weighted (tail b) p .divides d))
     back (no-weight n j w y) = rw (n, false-i (isWeighted (tail b)) (λ p. is-weighted (tail b) p .weighs j w y))
     back (other-bound n weighted other) =
-        rw (n, weighted-is (tail b) weighted, ne-eqb (bound b) (withLoss (problemOf s) (linearCost s b)) (λ e. other (bound-cover s b weighted e)))
+        rw (n, weighted-is (tail b) weighted, ne-eqb (bound b) (linearCost s b) (λ e. other (bound-cover s b weighted e)))
 
 -- ---- the judgement: no other kind has one of these numbers
 

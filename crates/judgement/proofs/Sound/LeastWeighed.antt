@@ -14,10 +14,10 @@ use lib.IntN.{ℤ, pos, negsuc, _-ℤ_, _*ℤ_}
 use lib.Signed.{_≤ℤ_}
 use borrow.Author.Tests.{eqb-true, eqb-false, lt-ltb, le-ltb}
 use Rattle.judgement.specs.Scan.{sumOf, one, countOf}
-use Rattle.judgement.specs.Meaning.{Assignment, positive, negative, variableOf, isPositive, literalTrue, trueCost, cost, Satisfies, Falsifies, Entailed}
+use Rattle.judgement.specs.Meaning.{Assignment, positive, negative, variableOf, isPositive, literalTrue, costOfTrue, cost, Satisfies, Falsifies, Entailed}
 use Rattle.judgement.specs.Literals.{count, code, holds, mentions}
 use Rattle.judgement.specs.Sheet.{variables, clauses, costOf, problemOf}
-use Rattle.judgement.specs.Step.{bound, literals, stated, tail, divisor, entryCount, entryCites, weight}
+use Rattle.judgement.specs.Step.{literals, stated, tail, divisor, entryCount, entryCites, weight}
 use Rattle.judgement.specs.Integers.{sumOfℤ}
 use Rattle.judgement.specs.Linear.{entryClause, weightOf, negatives, total}
 use Rattle.judgement.specs.Facts.{Among, In, LiteralList, ValidSheet, Linear, trueLiterals, weighed, LeastWeighed}
@@ -134,7 +134,7 @@ entries-balanced s e α (suc q) lists =
 
 -- d times what true variables cost and the weights, minus the weights of the true literals
 abbrev weighedUp : List ℕ → List ℕ → Assignment → ℕ
-weighedUp s e α = divisor e * trueCost (problemOf s) α + sumOf (weight e) (entryCount e)
+weighedUp s e α = divisor e * costOfTrue (problemOf s) α + sumOf (weight e) (entryCount e)
 
 abbrev weighedDown : List ℕ → List ℕ → Assignment → ℕ
 weighedDown s e α = sumOf (λ j. weight e j * trueLiterals α (entryClause s e j)) (entryCount e)
@@ -148,7 +148,7 @@ weighed-diff s e α =
     q = entryCount e
 
     x : ℕ
-    x = divisor e * trueCost (problemOf s) α
+    x = divisor e * costOfTrue (problemOf s) α
 
     entry : ℕ → ℤ
     entry j = pos (weight e j) *ℤ (pos 1 -ℤ pos (trueLiterals α (entryClause s e j)))
@@ -239,7 +239,7 @@ total-weighed : (s D e : List ℕ) (α : Assignment)
     → ((j : ℕ) → Among (entryCount e) j → LiteralList (variables s) (entryClause s e j))
     → totalUp s D e + weighedDown s e α + sumOf (lacked s D e α) (variables s)
     ≡ weighedUp s e α + totalDown s D e + sumOf (had s D e α) (variables s)
-unfolding trueCost
+unfolding costOfTrue
 total-weighed s D e α lists =
     let entries = entries-balanced s e α q lists in
     let scaled = true-times α (divisor e) (costOf s) n in
@@ -341,6 +341,6 @@ linear-entailed s b valid linear α model falsified =
     let most = sum-most (had s D e α) (lacked s D e α) n (λ v. variable-covered α D v (credit s e q v) (debit s e q v) falsified) in
     let same = total-weighed s D e α (λ j w. valid .lists (entryCites e j) (cites j w)) in
     let (x, rounded, bound-is) = linear .bounded in
-    let covered = cover-diff (total s b) (totalUp s D e) (totalDown s D e) (divisor e) x (trueCost (problemOf s) α)
+    let covered = cover-diff (total s b) (totalUp s D e) (totalDown s D e) (divisor e) x (costOfTrue (problemOf s) α)
     (total-diff s D e q) (omega (arith, linear .weighted .divides)) rounded (omega (arith, paid, most, same)) in
     rw bound-is (omega (arith, covered))

@@ -1,6 +1,6 @@
 //! The text of a record: its head, then a line for each step.
 
-use super::Lines;
+use super::{counted, Lines};
 use crate::record::{width, Record};
 use crate::text;
 use crate::words::{Fault, Words};
@@ -9,7 +9,9 @@ use planner::{Reason, Step};
 
 pub(super) fn record(lines: &mut Lines) -> Result<Vec<u8>, Fault> {
     let mut words = lines.due("variables")?;
-    let variables = words.number("the number of variables", u64::from(u16::MAX))? as usize;
+    let variables = words.number("the number of variables", u64::MAX)?;
+    counted(&words, variables)?;
+    let variables = variables as usize;
     words.end()?;
     let mut words = lines.due("claim")?;
     let claim = words.amount("the claim")?;

@@ -13,7 +13,7 @@ struct Candidate {
 
 /// Why the search may stop here: literals, all false, and what bounds the cost from below where they are.
 pub enum Explanation {
-    /// The true variables alone.
+    /// The true variables and the standing loss, without clauses.
     Cost {
         literals: Vec<Literal>,
     },

@@ -20,11 +20,17 @@ pub struct Shape {
     pub dearest: usize,
 }
 
+/// The clause of these literals, negative numbers for negative ones.
+pub fn clause(literals: &[i32]) -> Vec<Literal> {
+    let read = |literal: &i32| Literal::new(literal.unsigned_abs() as usize, *literal > 0);
+    literals.iter().map(read).collect()
+}
+
 pub fn problem(shape: &Shape, random: &mut Random) -> Problem {
     let costs = (0..shape.variables)
         .map(|_| random.between(1, shape.dearest) as u32)
         .collect();
-    let clauses = (0..shape.clauses).map(|_| clause(shape, random)).collect();
+    let clauses = (0..shape.clauses).map(|_| drawn(shape, random)).collect();
     Problem {
         loss: None,
         costs,
@@ -32,7 +38,7 @@ pub fn problem(shape: &Shape, random: &mut Random) -> Problem {
     }
 }
 
-fn clause(shape: &Shape, random: &mut Random) -> Vec<Literal> {
+fn drawn(shape: &Shape, random: &mut Random) -> Vec<Literal> {
     let length = random.between(shape.lengths[0], shape.lengths[1]);
     let mut literals: Vec<Literal> = Vec::with_capacity(length);
     while literals.len() < length {

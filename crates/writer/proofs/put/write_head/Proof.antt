@@ -6,8 +6,8 @@ use borrow.Author.Needs.{needs}
 use Rattle.writer.proofs.put.write_head.Statement.{statement}
 use Rattle.writer.proofs.put.write_head.Tie as tie
 
-first-field-requires : tie.Need-first-field-requires
-first-field-requires c κs = search needs
+due-field-requires : tie.Need-due-field-requires
+due-field-requires c κs = search needs
 
 put-u16-requires : tie.Need-put-u16-requires
 put-u16-requires c κs = search needs
@@ -50,7 +50,7 @@ same-length c = search needs
 
 returns : tie.Need-returns
 returns c =
-    let field = c .before .before .before .before .before .before .before .before .before .before .before .before .first-field in
+    let field = c .before .before .before .before .before .before .before .before .before .before .before .before .due-field in
     let p = c .before .before .before .before .before .before .before .before .before .before .before .before .before .before .before .before in
     let a = p .args in
     head-written (a .s .now) (a .end) (a .count) (a .out .now) _ _ _ (omega arith) (omega arith) (omega arith) (p .pre .3) (field .ensures)
@@ -60,7 +60,7 @@ pub write-head-spec : {M : Type 1} → statement M
 write-head-spec =
     tie.close
     (tie.spec
-    first-field-requires
+    due-field-requires
     put-u16-requires
     sub-put-u16
     part-put-u16-start

@@ -6,7 +6,7 @@ use crate::search;
 
 const BOTH: [Bounds; 2] = [Bounds::Independent, Bounds::Weights];
 
-/// 14 variables of costs up to 9, and clauses of three of them.
+/// 14 variables of costs up to 9, and clauses of three of them; three of four have a standing loss, which may be 0.
 fn problem(random: &mut Random) -> Problem {
     let mut clause = |_| {
         let [first, second] = [0, 0].map(|_| random.between(1, 5));
@@ -16,8 +16,9 @@ fn problem(random: &mut Random) -> Problem {
     };
     let clauses = (0..40).map(&mut clause).collect();
     let costs = (0..14).map(|_| random.between(1, 9) as u32).collect();
+    let loss = [None, Some(0), Some(7), Some(u32::MAX)][random.below(4)];
     Problem {
-        loss: None,
+        loss,
         costs,
         clauses,
     }
