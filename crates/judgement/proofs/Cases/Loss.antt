@@ -82,7 +82,7 @@ independentP bound = independentStep (negative 3 ∷ []) bound (1 ∷ 2 ∷ [])
 weightedP : ℕ → List ℕ
 weightedP bound = stepOf 5 (negative 3 ∷ []) bound (weightedTail 1 ((1, 1) ∷ (2, 2) ∷ []))
 
--- two clauses of one literal each, at half their weight: the total is 3, which 2 divides to 2
+-- two clauses of one literal each, with the costs for weights and the divisor 2: the total is 3, and 3 / 2 rounded up is 2
 sheetK : List ℕ
 sheetK = sheetOf 4 (1 ∷ 2 ∷ []) (clause (positive 1 ∷ []) ∷ clause (positive 2 ∷ []) ∷ [])
 
