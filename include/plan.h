@@ -5,7 +5,7 @@
  * two files may overlap, or be one. The array that a call writes, answer or part, may not overlap either file, nor what a call
  * that is made at the same time reads or writes; it may not be NULL. The same goes for the buffer that plan_write_sheet writes,
  * out, which may not overlap its answer either; but where it has no bytes, out may be NULL. A call takes less than 88 KB of
- * stack. */
+ * stack, plan_search less than 336 KB. */
 #ifndef PLAN_H
 #define PLAN_H
 
@@ -16,7 +16,7 @@
 extern "C" {
 #endif
 
-/* The claim that no assignment satisfies every clause, and the bound of a step that says so. */
+/* The claim that no assignment satisfies every clause, and the bound of a step or the floor of a search that says so. */
 #define PLAN_NONE UINT64_MAX
 
 /* The places of an answer's numbers. */
@@ -53,6 +53,30 @@ enum { PLAN_LENGTH = 2 };
  *
  * Clauses may get other numbers, so that a record goes with the sheet that it was made for. */
 void plan_write_sheet(const uint8_t *sheet, size_t sheet_len, uint8_t *out, size_t out_len, uint64_t answer[3]);
+
+/* The places of the search's numbers: PLAN_NUMBER and PLAN_PLACE, and then these. */
+enum { PLAN_FOUND = 2, PLAN_PLAN, PLAN_CHOICES, PLAN_ENDED, PLAN_FLOOR };
+
+/* Searches a sheet of 64 variables at most for a plan: an assignment that satisfies every clause, at the least cost if the budget
+ * lasts. It takes the variables by number, false before true. What a clause forces is settled without a choice; each value that
+ * is tried beyond that is one choice, and no more of them are made than the budget says.
+ *
+ * Where the number is not 0, it is the refusal's number in the table of docs/FORMATS.md, 1 to 4 of the sheet or 26 where it has
+ * more than 64 variables, with its place, and the last five are 0. Where it is 0:
+ *
+ *   found     1 where there is a plan, else 0;
+ *   plan      its true variables: variable v is bit v - 1, and the other bits are 0. It satisfies every clause;
+ *   choices   how many were made, the whole budget where the search has not ended;
+ *   ended     1 where no branch is left untried, else 0. Then there is a plan exactly where some assignment satisfies every
+ *             clause; it is of the least cost, and of all of that cost the first: at the lowest variable in which two of them
+ *             differ, it has false;
+ *   floor     no assignment that satisfies every clause costs less. Of a search that has ended, the cost of its plan, or
+ *             PLAN_NONE where it has none.
+ *
+ * A budget is asked for a unit only where a choice is due, so that a search that has ended gives the same answer to every larger
+ * one. The call takes as long as its choices do, and says nothing meanwhile: a caller who cannot wait gives a small budget. It
+ * leaves no record. */
+void plan_search(const uint8_t *sheet, size_t sheet_len, uint64_t budget, uint64_t answer[7]);
 
 #ifdef __cplusplus
 }

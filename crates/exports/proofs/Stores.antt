@@ -23,3 +23,15 @@ six (x ∷ y ∷ z ∷ u ∷ []) h a b c d e f = absurd (omega arith)
 six (x ∷ y ∷ z ∷ u ∷ v ∷ []) h a b c d e f = absurd (omega arith)
 six (x ∷ y ∷ z ∷ u ∷ v ∷ w ∷ []) h a b c d e f = refl
 six (x ∷ y ∷ z ∷ u ∷ v ∷ w ∷ o ∷ l) h a b c d e f = absurd (omega arith)
+
+pub seven : (l : List ℕ) → length l ≡ 7 → (a b c d e f g : ℕ)
+    → set (set (set (set (set (set (set l 0 a) 1 b) 2 c) 3 d) 4 e) 5 f) 6 g ≡ a ∷ b ∷ c ∷ d ∷ e ∷ f ∷ g ∷ []
+seven [] h a b c d e f g = absurd (omega arith)
+seven (x ∷ []) h a b c d e f g = absurd (omega arith)
+seven (x ∷ y ∷ []) h a b c d e f g = absurd (omega arith)
+seven (x ∷ y ∷ z ∷ []) h a b c d e f g = absurd (omega arith)
+seven (x ∷ y ∷ z ∷ u ∷ []) h a b c d e f g = absurd (omega arith)
+seven (x ∷ y ∷ z ∷ u ∷ v ∷ []) h a b c d e f g = absurd (omega arith)
+seven (x ∷ y ∷ z ∷ u ∷ v ∷ w ∷ []) h a b c d e f g = absurd (omega arith)
+seven (x ∷ y ∷ z ∷ u ∷ v ∷ w ∷ o ∷ []) h a b c d e f g = refl
+seven (x ∷ y ∷ z ∷ u ∷ v ∷ w ∷ o ∷ i ∷ l) h a b c d e f g = absurd (omega arith)

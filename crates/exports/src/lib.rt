@@ -2,13 +2,15 @@
 use judgement::Answer;
 use judgement::Part;
 use judgement::Written;
+use search::Found;
 ghost use mathlib.Core.Path.{_≡_};
 ghost use mathlib.Core.Bool.{cond};
 ghost use lib.ListN.{length};
 ghost use Rattle.judgement.specs.Judgement.{judgement, shownPart};
 ghost use Rattle.judgement.specs.Place.{Inside};
 ghost use Rattle.writer.specs.Canonical.{writing, leaves};
-ghost use Rattle.exports.specs.Numbers.{answerNumbers, partNumbers, writtenNumbers};
+ghost use Rattle.search.specs.Answer.{found};
+ghost use Rattle.exports.specs.Numbers.{answerNumbers, partNumbers, writtenNumbers, foundNumbers};
 
 fn put_answer(a: Answer, out: &mut [u64])
     requires { ⌜ length (now out) ≡ 6 ⌝ }
@@ -22,11 +24,11 @@ fn put_answer(a: Answer, out: &mut [u64])
     out[5] = a.gap;
 }
 
-// 1 for the sheet, 0 for the record.
-fn file_number(in_sheet: bool) -> u64
-    ensures { λ r. ⌜ r ≡ cond in_sheet 1 0 ⌝ }
+// 1 where it is so.
+fn flag(b: bool) -> u64
+    ensures { λ r. ⌜ r ≡ cond b 1 0 ⌝ }
 {
-    if in_sheet {
+    if b {
         return 1;
     }
     0
@@ -36,7 +38,7 @@ fn put_part(p: Part, out: &mut [u64])
     requires { ⌜ length (now out) ≡ 3 ⌝ }
     ensures { λ _. ⌜ now (out .exit) ≡ partNumbers p ⌝ }
 {
-    out[0] = file_number(p.in_sheet);
+    out[0] = flag(p.in_sheet);
     out[1] = p.start as u64;
     out[2] = p.size as u64;
 }
@@ -75,4 +77,26 @@ pub extern "C" fn plan_write_sheet(sheet: &[u8], out: &mut [u8], answer: &mut [u
     ensures buffer { λ _. ⌜ now (out .exit) ≡ leaves (now (sheet .entry)) (now (out .entry)) ⌝ }
 {
     put_written(writer::write_sheet(sheet, out), answer);
+}
+
+fn put_found(f: Found, out: &mut [u64])
+    requires { ⌜ length (now out) ≡ 7 ⌝ }
+    ensures { λ _. ⌜ now (out .exit) ≡ foundNumbers f ⌝ }
+{
+    out[0] = f.number as u64;
+    out[1] = f.place as u64;
+    out[2] = flag(f.found);
+    out[3] = f.plan;
+    out[4] = f.choices;
+    out[5] = flag(f.ended);
+    out[6] = f.floor;
+}
+
+// Number, place, 1 where there is a plan, the plan, choices, 1 where the search has ended, and the floor. What these promise is in
+// the contract of `search::search`.
+#[no_mangle]
+pub extern "C" fn plan_search(sheet: &[u8], budget: u64, answer: &mut [u64; 7])
+    ensures { λ _. ⌜ now (answer .exit) ≡ foundNumbers (found (now (sheet .entry)) budget) ⌝ }
+{
+    put_found(search::search(sheet, budget), answer);
 }

@@ -1,6 +1,7 @@
 //! Measures the proved checker beside the checker written for speed, and the proved writer beside such writers. `bench/run`,
 //! at the repository's root, builds it and explains it.
 
+mod searches;
 mod writers;
 
 use bench::{judge, Marks, Merge};
@@ -17,7 +18,10 @@ const USAGE: &str = "usage: bench times MEGABYTES ROUNDS SET..
        bench once proved|merge|marks|bytes|nothing FOLDER
        bench writers times ROUNDS SET..
        bench writers sheet SET FOLDER
-       bench writers once proved|decoded|stored|bytes|nothing FOLDER";
+       bench writers once proved|decoded|stored|bytes|nothing FOLDER
+       bench searches times ROUNDS SET..
+       bench searches sheet SET FOLDER
+       bench searches once proved|watched|sliced|again|nothing FOLDER";
 
 const SEED: u64 = 11;
 const MEGABYTE: usize = 1_000_000;
@@ -66,6 +70,7 @@ fn main() {
         ["write", set, size, folder] => write(set, size, Path::new(folder)),
         ["once", job, folder] => once(job, Path::new(folder)),
         ["writers", ref rest @ ..] => writers::run(rest),
+        ["searches", ref rest @ ..] => searches::run(rest),
         _ => None,
     };
     if done.is_none() {

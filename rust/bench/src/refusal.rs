@@ -25,3 +25,4 @@ pub(crate) const SHARED_PADDLE: u64 = 22;
 pub(crate) const WEIGHTS: u64 = 23;
 pub(crate) const LINEAR_BOUND: u64 = 24;
 pub(crate) const SHORT_BUFFER: u64 = 25;
+pub(crate) const MANY_PADDLES: u64 = 26;

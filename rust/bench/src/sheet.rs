@@ -1,5 +1,6 @@
 //! The sheet: refusals 2, 3 and 4.
 
+use crate::judge::LONGEST;
 use crate::read::{code, codes, fault, pair, rises, Codes, Fault, Pairs, CODES};
 use crate::refusal;
 
@@ -22,6 +23,14 @@ const CLAUSES: usize = 4096;
 pub(crate) const MARK: usize = 0x8000;
 
 impl<'a> Parts<'a> {
+    /// Refusals 1 to 4, where there is no record beside the sheet.
+    pub fn alone(bytes: &'a [u8]) -> Result<Self, Fault> {
+        if bytes.len() as u64 > LONGEST {
+            return fault(refusal::OVERSIZE, 0);
+        }
+        Self::read(bytes)
+    }
+
     pub fn read(bytes: &'a [u8]) -> Result<Self, Fault> {
         let Some(parts) = Self::head(bytes) else {
             return fault(refusal::SHEET_HEAD, 0);

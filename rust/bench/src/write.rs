@@ -1,7 +1,6 @@
 //! The one way to write a sheet: its clauses sorted by their codes, each of them once. There are two writers, which differ in
 //! what they sort. Both make the whole work: refusals 1 to 4 of the sheet, and 25 where the buffer is too short.
 
-use crate::judge::LONGEST;
 use crate::read::{fault, Codes, Fault};
 use crate::refusal;
 use crate::sheet::{Parts, MARK};
@@ -11,7 +10,7 @@ use std::mem;
 
 /// Writes a sheet by numbers: every code is read once, and the lists that are compared are of those.
 pub fn write_decoded(sheet: &[u8], out: &mut [u8]) -> Written {
-    answer(valid(sheet).and_then(|parts| {
+    answer(Parts::alone(sheet).and_then(|parts| {
         let all = parts.all_literals().iter().copied();
         let all: Vec<u16> = all.map(u16::from_le_bytes).collect();
         let mut clauses = parts.by_clause(&all);
@@ -23,7 +22,7 @@ pub fn write_decoded(sheet: &[u8], out: &mut [u8]) -> Written {
 
 /// Writes a sheet by its own bytes: codes are compared where they are stored, and read as often as they are compared.
 pub fn write_stored(sheet: &[u8], out: &mut [u8]) -> Written {
-    answer(valid(sheet).and_then(|parts| {
+    answer(Parts::alone(sheet).and_then(|parts| {
         let mut clauses = parts.by_clause(parts.all_literals());
         clauses.sort_unstable_by(|a, b| compare(a, b));
         clauses.dedup();
@@ -50,14 +49,6 @@ fn answer(done: Result<usize, Fault>) -> Written {
         place,
         length,
     }
-}
-
-/// Refusals 1 to 4.
-fn valid(sheet: &[u8]) -> Result<Parts<'_>, Fault> {
-    if sheet.len() as u64 > LONGEST {
-        return fault(refusal::OVERSIZE, 0);
-    }
-    Parts::read(sheet)
 }
 
 /// A literal's code, as a number or as it is stored.

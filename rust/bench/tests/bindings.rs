@@ -1,7 +1,8 @@
 //! The example programs of `bindings/`, built and run: every plan of `examples/` gives its line and exit code, and its sheet is
-//! written in the one way; and the C programs make no memory error that valgrind sees, whatever the files hold.
+//! written in the one way and searched; and the C programs make no memory error that valgrind sees, whatever the files hold.
 
-use reference::Verdict;
+use planner::{format, Literal, Problem};
+use reference::{Found, Verdict};
 use samples::examples::{example, examples, Example};
 use samples::writing::Listing;
 use std::collections::BTreeMap;
@@ -152,6 +153,79 @@ fn the_c_writer_writes_every_sheet() {
     );
 }
 
+/// What the C search prints of a sheet that is not refused.
+fn found_lines(found: &Found) -> String {
+    let is_true = |plan: u64, variable: usize| plan >> (variable - 1) & 1 == 1;
+    let plan = found.plan.map(|plan| {
+        let listed = (1..=64).filter(|variable| is_true(plan, *variable));
+        listed.fold("assign".to_string(), |line, v| format!("{line} {v}"))
+    });
+    let plan = plan.unwrap_or("no plan".to_string());
+    let floor = match found.floor {
+        reference::NONE => "none".to_string(),
+        floor => floor.to_string(),
+    };
+    let ended = if found.ended { "ended" } else { "not ended" };
+    let choices = found.choices;
+    format!("{plan}\nfloor {floor}\n{ended} after {choices} choices\n")
+}
+
+/// What the C search says of a sheet is what the reference search finds. `start` gets the program's two words.
+fn searches(mut start: Command, folder: &Path, sheet: &[u8], budget: u64) {
+    let path = folder.join("sheet");
+    fs::write(&path, sheet).unwrap();
+    let found = reference::search(sheet, budget);
+    let (code, lines) = match (found.number, found.place) {
+        (0, _) => (0, found_lines(&found)),
+        (number, place) => (1, format!("refused {number} at {place}\n")),
+    };
+    let output = run(start.arg(&path).arg(budget.to_string()));
+    let said = String::from_utf8_lossy(&output.stderr);
+    assert_eq!(output.status.code(), Some(code), "{budget}\n{said}");
+    assert_eq!(String::from_utf8_lossy(&output.stdout), lines, "{budget}");
+}
+
+/// So many variables, of which the last has to be true, and of any two neighbours one: the plan's highest bit is set.
+fn many_variables(count: usize) -> Vec<u8> {
+    let pair = |v| vec![Literal::positive(v), Literal::positive(v + 1)];
+    let mut clauses: Vec<Vec<Literal>> = (1..count).map(pair).collect();
+    clauses.push(vec![Literal::positive(count)]);
+    format::sheet(&Problem {
+        loss: Some(7),
+        costs: vec![1; count],
+        clauses,
+    })
+}
+
+#[test]
+fn the_c_search_finds_the_plan_of_every_sheet() {
+    let program = c_program("search", "c-search");
+    let folder = program.parent().unwrap();
+    for Example { sheet, .. } in examples() {
+        let cut = &sheet[..sheet.len() - 1];
+        searches(Command::new(&program), folder, cut, 9);
+        for budget in [0, 1, 3, u64::MAX] {
+            searches(Command::new(&program), folder, &sheet, budget);
+        }
+    }
+    for count in [64, 65] {
+        let sheet = many_variables(count);
+        searches(Command::new(&program), folder, &sheet, 500);
+    }
+    tells_wrong_use(&program);
+    for budget in ["", "-1", "+1", " 1", "1.5", "18446744073709551616"] {
+        let output = run(Command::new(&program).arg(folder.join("sheet")).arg(budget));
+        assert_eq!(output.status.code(), Some(2), "'{budget}'");
+        assert!(output.stdout.is_empty() && !output.stderr.is_empty());
+    }
+    let output = run(Command::new(&program).arg("no such file").arg("1"));
+    let said = String::from_utf8_lossy(&output.stderr);
+    assert_eq!(
+        (output.status.code(), &*said),
+        (Some(2), "cannot read no such file\n")
+    );
+}
+
 /// The program under valgrind.
 fn watched(program: &Path) -> Command {
     let mut command = Command::new("valgrind");
@@ -219,5 +293,22 @@ fn the_c_writer_makes_no_memory_error() {
     }
     for sample in samples::stream(3).take(60).step_by(6) {
         writes(watched(&program), folder, &sample.sheet, sample.aimed);
+    }
+}
+
+#[test]
+#[ignore = "needs valgrind"]
+fn the_c_search_makes_no_memory_error() {
+    let program = c_program("search", "valgrind-search");
+    let folder = program.parent().unwrap();
+    let sheet = example("D").sheet;
+    let cut = &sheet[..sheet.len() - 1];
+    for file in [&[], cut, &sheet, &many_variables(64), &many_variables(65)] {
+        for budget in [0, 5, 60] {
+            searches(watched(&program), folder, file, budget);
+        }
+    }
+    for sample in samples::stream(3).take(60).step_by(6) {
+        searches(watched(&program), folder, &sample.sheet, 40);
     }
 }

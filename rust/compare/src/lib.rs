@@ -1,6 +1,6 @@
 //! Both checkers behind one type, what a message about a difference needs, and what the tests can be told.
 
-use reference::{Answer, Written};
+use reference::{Answer, Found, Written};
 use std::str::FromStr;
 
 /// The proved judgement, as the reference checker's type.
@@ -23,6 +23,19 @@ pub fn write_sheet(sheet: &[u8], out: &mut [u8]) -> Written {
         number: u32::try_from(a.number).expect("a refusal number"),
         place: a.place,
         length: a.length,
+    }
+}
+
+/// What the proved search answers, as the reference checker's type.
+pub fn search(sheet: &[u8], budget: u64) -> Found {
+    let a = proved::search(sheet, budget);
+    Found {
+        number: a.number,
+        place: u64::from(a.place),
+        plan: a.plan,
+        choices: a.choices,
+        ended: a.ended,
+        floor: a.floor,
     }
 }
 

@@ -1,10 +1,10 @@
 //! The proved checker and the reference checker give the same answers: on every example, on many generated and damaged
 //! records, and on longer ones. A difference prints both files.
 
-use compare::{hex, judge, setting, write_sheet};
+use compare::{hex, judge, search, setting, write_sheet};
 use planner::padding::Mix;
 use proved::show;
-use reference::Written;
+use reference::{Found, Written};
 use samples::damage;
 use samples::draft::{overwrite, read_u32, read_u64, Body, Draft, Files, Head};
 use samples::examples::{example, examples, Example};
@@ -395,6 +395,11 @@ fn refusal_1_on_files_of_4_gigabytes() {
     assert_eq!(same(&too_long, &[], "a sheet too long"), refused(1));
     assert_eq!(same(&[], &too_long, "a record too long"), refused(1));
     assert_eq!(same(longest, longest, "both at the limit"), refused(2));
+    for search in [search, reference::search] {
+        let number = |found: Found| (found.number, found.place, found.ended, found.floor);
+        assert_eq!(number(search(&too_long, 1)), (1, 0, false, 0));
+        assert_eq!(number(search(longest, 1)), (2, 0, false, 0));
+    }
     // The sheet stands in the one way already.
     let sheet = example("A1").sheet;
     let filled = [0xA5; 64];

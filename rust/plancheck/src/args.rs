@@ -1,4 +1,4 @@
-//! Arguments of a command: files, an output, a number of steps, flags.
+//! Arguments of a command: files, an output, a number of steps or of choices, flags.
 
 use crate::failure::Failure;
 use std::ffi::OsString;
@@ -11,6 +11,8 @@ pub struct Args {
     pub output: Option<PathBuf>,
     /// What follows `--steps`, 1 at least.
     pub steps: Option<u64>,
+    /// What follows `--budget`.
+    pub budget: Option<u64>,
     /// The flags that stand there, as they are written.
     pub flags: Vec<String>,
     pub help: bool,
@@ -26,6 +28,7 @@ impl Args {
                 Some("--help" | "-h") => args.help = true,
                 Some("-o") if known.contains(&"-o") => args.set_output(rest.next())?,
                 Some("--steps") if known.contains(&"--steps") => args.set_steps(rest.next())?,
+                Some("--budget") if known.contains(&"--budget") => args.set_budget(rest.next())?,
                 Some(flag) if known.contains(&flag) => args.flags.push(flag.into()),
                 Some(flag) if flag.starts_with('-') && flag.len() > 1 => {
                     return Err(Failure::Usage(format!("unknown option {flag}")))
@@ -40,25 +43,17 @@ impl Args {
         let Some(output) = output else {
             return Err(Failure::Usage("-o needs a file".into()));
         };
-        match self.output.replace(output.into()) {
-            Some(_) => Err(Failure::Usage("-o stands twice".into())),
-            None => Ok(()),
-        }
+        once("-o", self.output.replace(output.into()))
     }
 
     fn set_steps(&mut self, steps: Option<&OsString>) -> Result<(), Failure> {
-        let Some(steps) = steps else {
-            return Err(Failure::Usage("--steps needs a number".into()));
-        };
-        let steps = steps.to_string_lossy();
-        let Some(number) = steps.parse().ok().filter(|number| *number > 0) else {
-            let wrong = format!("--steps takes a number from 1 on, not '{steps}'");
-            return Err(Failure::Usage(wrong));
-        };
-        match self.steps.replace(number) {
-            Some(_) => Err(Failure::Usage("--steps stands twice".into())),
-            None => Ok(()),
-        }
+        let number = number("--steps", steps, 1)?;
+        once("--steps", self.steps.replace(number))
+    }
+
+    fn set_budget(&mut self, budget: Option<&OsString>) -> Result<(), Failure> {
+        let number = number("--budget", budget, 0)?;
+        once("--budget", self.budget.replace(number))
     }
 
     pub fn has(&self, flag: &str) -> bool {
@@ -77,5 +72,24 @@ impl Args {
     pub fn needed_output(&self) -> Result<&PathBuf, Failure> {
         let missing = || Failure::Usage("-o FILE is missing".into());
         self.output.as_ref().ok_or_else(missing)
+    }
+}
+
+/// What follows an option that takes a number.
+fn number(option: &str, word: Option<&OsString>, least: u64) -> Result<u64, Failure> {
+    let Some(word) = word else {
+        return Err(Failure::Usage(format!("{option} needs a number")));
+    };
+    let word = word.to_string_lossy();
+    let number = word.parse().ok().filter(|number| *number >= least);
+    let wrong = || format!("{option} takes a number from {least} on, not '{word}'");
+    number.ok_or_else(|| Failure::Usage(wrong()))
+}
+
+/// An option takes the place of nothing.
+fn once<T>(option: &str, before: Option<T>) -> Result<(), Failure> {
+    match before {
+        Some(_) => Err(Failure::Usage(format!("{option} stands twice"))),
+        None => Ok(()),
     }
 }

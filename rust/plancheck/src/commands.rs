@@ -2,6 +2,7 @@
 
 mod judging;
 mod planning;
+mod searching;
 mod texts;
 mod writing;
 
@@ -24,13 +25,14 @@ struct Command {
 }
 
 #[rustfmt::skip]
-const COMMANDS: [Command; 8] = [
+const COMMANDS: [Command; 9] = [
     Command { name: "judge", help: help::JUDGE, known: &[], run: judging::judge },
     Command { name: "explain", help: help::EXPLAIN, known: &[], run: judging::explained },
     Command { name: "stats", help: help::STATS, known: &[], run: judging::counted },
     Command { name: "text", help: help::TEXT, known: &["--record", "-o"], run: texts::as_text },
     Command { name: "pack", help: help::PACK, known: &["-o"], run: texts::packed },
     Command { name: "write", help: help::WRITE, known: &["-o"], run: writing::written },
+    Command { name: "search", help: help::SEARCH, known: &["--budget"], run: searching::searched },
     Command { name: "plan", help: help::PLAN, known: &["--tree", "--unweighted", "--steps", "-o"], run: planning::planned },
     Command { name: "import", help: help::IMPORT, known: &["-o"], run: planning::imported },
 ];

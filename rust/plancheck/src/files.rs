@@ -143,17 +143,17 @@ pub fn canonical(path: &Path, sheet: &[u8]) -> Result<Vec<u8>, Failure> {
     let mut buffer = vec![0; sheet.len()];
     let written = proved::write_sheet(sheet, &mut buffer);
     if written.number != 0 {
-        return Err(unwritten(path, sheet, &written));
+        return Err(refused_alone(path, sheet, written.number, written.place));
     }
     buffer.truncate(written.length as usize);
     Ok(buffer)
 }
 
-/// The writer's refusal, with what stands at its place.
-fn unwritten(path: &Path, sheet: &[u8], written: &proved::Written) -> Failure {
+/// The refusal of a call that takes no record, with what stands at its place.
+pub fn refused_alone(path: &Path, sheet: &[u8], number: u64, place: u64) -> Failure {
     let answer = Answer {
-        number: written.number,
-        place: written.place,
+        number,
+        place,
         cost: 0,
         open_count: 0,
         step_count: 0,

@@ -1,7 +1,7 @@
 //! What each command is for, and how it is called.
 
 pub const ALL: &str = "\
-plancheck: judges plans by the proved checker, and shows, writes, plans and imports them
+plancheck: judges plans by the proved checker, and shows, writes, searches, plans and imports them
 
   plancheck judge SHEET RECORD               the answer, as one line
   plancheck explain SHEET RECORD             the answer in plain words, with its place
@@ -10,6 +10,7 @@ plancheck: judges plans by the proved checker, and shows, writes, plans and impo
   plancheck text --record SHEET RECORD       the record as text
   plancheck pack TEXT -o FILE                from text back to bytes
   plancheck write SHEET -o OUT               the sheet in the one way to write it, to compare it with others
+  plancheck search SHEET                     the best plan that the proved search finds, without a record
   plancheck plan SHEET -o RECORD             plans the sheet
   plancheck plan --steps N SHEET -o RECORD   plans it in N steps at most, and stops early if they do not suffice
   plancheck import FILE.wcnf -o SHEET        a sheet from the weighted DIMACS form
@@ -105,6 +106,34 @@ one.
 
 Exit code 0 for a sheet that is written, 1 for a refused one, which leaves OUT as it was, 2 for wrong use and files that cannot
 be read or written. Where OUT cannot be written, a file that stood there stays as it was.
+";
+
+pub const SEARCH: &str = "\
+plancheck search [--budget N] SHEET
+
+Looks for a plan of least cost by the proved search, in a sheet of 64 variables at most, and prints the best one that it finds,
+for example:
+
+  assign 2 3                      the variables that are true; or: no plan
+  cost 5                          what the plan costs, the loss of a marked sheet included
+  floor 5                         no plan costs less; none where no plan exists
+  ended after 4 choices: ...      whether everything was tried, and what is known by that
+
+The search takes variables by number, false before true. What a clause leaves no choice about is set at once. A branch is left
+where a clause is false, or where it costs no less than the best plan. --budget N allows N choices; without it there are
+10000000, which take a few seconds at most, for most sheets. Where they are spent before everything was tried, the search has not
+ended: the plan is the best so far, and the floor says how far it may be from the least cost.
+
+Once the search has ended, the plan is of the least cost. Of several such plans it is the first: at the lowest variable in which
+two of them differ, it has false. No larger budget changes the answer then.
+
+The search leaves no record. What it says is proved to be so, but a store wants a record, which 'plancheck plan' makes.
+
+On a terminal a long search tells on standard error how it gets on. To that end it begins anew with twice the budget, again and
+again, up to N. All of that together is less than 2 N choices.
+
+Exit code 0 for every answer, also where the search has not ended or no plan exists, 1 for a refused sheet, 2 for wrong use and
+files that cannot be read.
 ";
 
 pub const PLAN: &str = "\

@@ -1,7 +1,7 @@
 //! The plan checker's command line: everything around the proved checker that a person needs to use it.
 //!
-//! Nothing here judges. Every verdict is `proved::judge`'s, and what a canonical sheet is, `proved::write_sheet` says; the
-//! readers below take files apart to show them.
+//! Nothing here judges. Every verdict is `proved::judge`'s; what a canonical sheet is, `proved::write_sheet` says, and what a
+//! search finds, `proved::search`. The readers below take files apart to show them.
 #![forbid(unsafe_code)]
 
 pub mod args;
@@ -18,6 +18,7 @@ pub mod places;
 pub mod record;
 pub mod refusals;
 pub mod resolution;
+pub mod search;
 pub mod sheet;
 pub mod stats;
 pub mod steps;

@@ -6,6 +6,9 @@ use proved::{Answer, Verdict};
 /// What a mend leaves to do.
 pub const ANEW: &str = "after a mend, work out anew the steps that rest on this one";
 
+/// As many variables as the search takes.
+pub const MOST_SEARCHED: usize = 64;
+
 /// What kind of thing a refusal's place is.
 #[derive(Clone, Copy, Debug, PartialEq, Eq)]
 pub enum Place {
@@ -35,6 +38,7 @@ pub fn sentence(answer: &Answer, marked: bool) -> String {
         (Verdict::Refused, 8..=11) => about_claim(answer.number, place),
         (Verdict::Refused, 12..=24) => about_step(answer.number, place, marked),
         (Verdict::Refused, 25) => "Short buffer: the sheet, written in the one way, is longer than the buffer.".to_string(),
+        (Verdict::Refused, 26) => format!("Many paddles: the sheet has more variables than the {MOST_SEARCHED} that the search takes."),
         (Verdict::Refused, number) => format!("{number} is not the number of a refusal."),
     }
 }

@@ -42,8 +42,13 @@ pub fn assignment_line(record: &Record, variables: usize) -> String {
     if record.has_spare_bits(variables) {
         return format!("assign raw{}", hex(record.bits));
     }
+    assigned(record.true_variables(variables))
+}
+
+/// A line of the variables that are true.
+pub fn assigned(variables: impl IntoIterator<Item = usize>) -> String {
     let mut line = "assign".to_string();
-    for variable in record.true_variables(variables) {
+    for variable in variables {
         let _ = write!(line, " {variable}");
     }
     line

@@ -58,11 +58,12 @@ fn sentence_at_7(number: usize, marked: bool) -> String {
     sentence(&answer, marked)
 }
 
-/// The writer's own refusal: no record meets it.
-const SHORT_BUFFER: usize = 25;
+/// The writer's own refusal and the search's: no record meets them.
+const WITHOUT_RECORD: [usize; 2] = [25, 26];
+const LAST: usize = 26;
 
 fn sentences_differ(marked: bool) {
-    let numbers = (1..NUMBERS).chain([SHORT_BUFFER]);
+    let numbers = (1..NUMBERS).chain(WITHOUT_RECORD);
     let sentences = numbers.map(|number| {
         let sentence = sentence_at_7(number, marked);
         assert_eq!(
@@ -73,9 +74,9 @@ fn sentences_differ(marked: bool) {
         sentence
     });
     let sentences: BTreeSet<String> = sentences.collect();
-    assert_eq!(sentences.len(), SHORT_BUFFER);
-    assert!(sentence_at_7(SHORT_BUFFER + 1, marked).contains("not the number of a refusal"));
-    assert_eq!(place_of(SHORT_BUFFER as u64 + 1), Place::File);
+    assert_eq!(sentences.len(), LAST);
+    assert!(sentence_at_7(LAST + 1, marked).contains("not the number of a refusal"));
+    assert_eq!(place_of(LAST as u64 + 1), Place::File);
 }
 
 #[test]
@@ -87,7 +88,7 @@ fn each_refusal_has_a_sentence_of_its_own() {
 /// Of a marked sheet the head and three bounds are told otherwise, and of a sheet without a mark nothing speaks of a loss.
 #[test]
 fn the_loss_is_told_where_it_counts() {
-    for number in 1..=SHORT_BUFFER {
+    for number in 1..=LAST {
         let [plain, marked] = [false, true].map(|marked| sentence_at_7(number, marked));
         assert!(!plain.contains(" loss"), "{plain}");
         let counts = [2, 13, 15, 24].contains(&number);

@@ -1,4 +1,5 @@
-//! The proved checker, called from Rust. Every answer here is the static library's: nothing is judged or sorted on this side.
+//! The proved checker, called from Rust. Every answer here is the static library's: nothing is judged, sorted or searched on
+//! this side.
 //!
 //! The declarations of the library's functions are not checked against its source, so they are few, and everything else goes
 //! through the safe functions below.
@@ -85,6 +86,24 @@ pub struct Written {
     pub length: u64,
 }
 
+/// What a search came to.
+#[derive(Clone, Copy, Debug, PartialEq, Eq)]
+pub struct Found {
+    /// The refusal's number, 0 where the sheet was searched.
+    pub number: u32,
+    /// The clause that the refusal names, 0 where there is none.
+    pub place: u32,
+    /// The best plan that was found, variable v in bit v - 1. It satisfies every clause, and is the first of least cost where
+    /// the search ended.
+    pub plan: Option<u64>,
+    /// How many choices were made: the whole budget, unless the search ended.
+    pub choices: u64,
+    /// Whether every branch was tried: without a plan no assignment satisfies every clause.
+    pub ended: bool,
+    /// No assignment that satisfies every clause costs less. [`NONE`] where no plan was found and no branch is left.
+    pub floor: u64,
+}
+
 extern "C" {
     // A slice passes as a pointer and a length, an array as a pointer: see include/plan.h.
     fn plan_judge(
@@ -109,6 +128,7 @@ extern "C" {
         out_len: usize,
         answer: *mut u64,
     );
+    fn plan_search(sheet: *const u8, sheet_len: usize, budget: u64, answer: *mut u64);
 }
 
 /// The judgement of a record, any bytes.
@@ -181,6 +201,23 @@ pub fn write_sheet(sheet: &[u8], out: &mut [u8]) -> Written {
     }
 }
 
+/// Searches a sheet of at most 64 variables for a plan of least cost. Each choice takes one of the budget; where there is none
+/// left for the next, the answer is what was found by then.
+pub fn search(sheet: &[u8], budget: u64) -> Found {
+    let mut numbers = [0u64; 7];
+    // SAFETY: the sheet may be read, and the array has the seven places that are written.
+    unsafe { plan_search(sheet.as_ptr(), sheet.len(), budget, numbers.as_mut_ptr()) };
+    let [number, place, is_found, plan, choices, ended, floor] = numbers;
+    Found {
+        number: u32::try_from(number).expect("a refusal number"),
+        place: u32::try_from(place).expect("a clause"),
+        plan: (is_found == 1).then_some(plan),
+        choices,
+        ended: ended == 1,
+        floor,
+    }
+}
+
 #[cfg(test)]
 mod tests {
     use super::*;
@@ -238,22 +275,69 @@ mod tests {
         assert_eq!((&out[..8], &out[8..]), (&bytes[..], &[7; 2][..]));
     }
 
-    /// A sheet of one variable, with as many clauses as there may be: what the writer takes grows a little with their number.
-    fn most_clauses() -> Vec<u8> {
-        let count = 4_096_u16;
-        let pair = (8 + 8 * u64::from(count)).to_le_bytes();
-        let [low, high] = count.to_le_bytes();
-        let head = [1, 0, low, high, 1, 0, 0, 0];
-        [&head[..], &pair.repeat(usize::from(count))].concat()
+    /// The search, on a sheet by pointer and length.
+    fn found(sheet: (*const u8, usize), budget: u64) -> [u64; 7] {
+        let mut answer = [7; 7];
+        // SAFETY: as above.
+        unsafe { plan_search(sheet.0, sheet.1, budget, answer.as_mut_ptr()) };
+        answer
     }
 
-    /// The header promises less than 88 KB for a call. This thread has no more, and some of it goes to the thread itself.
+    /// Every number is written, 0 too, and each at its place.
+    #[test]
+    fn a_search_writes_seven_numbers() {
+        let (a, none) = (
+            include_bytes!("../../../examples/A1/sheet"),
+            include_bytes!("../../../examples/B2/sheet"),
+        );
+        let a = (a.as_ptr(), a.len());
+        assert_eq!(found((null(), 0), 9), [2, 0, 0, 0, 0, 0, 0]);
+        assert_eq!(found((a.0, a.1 - 1), 9), [3, 2, 0, 0, 0, 0, 0]);
+        assert_eq!(found(a, 0), [0, 0, 0, 0, 0, 0, 0]);
+        assert_eq!(found(a, 2), [0, 0, 0, 0, 2, 0, 3]);
+        assert_eq!(found(a, 3), [0, 0, 1, 1, 3, 0, 3]);
+        assert_eq!(found(a, u64::MAX), [0, 0, 1, 1, 4, 1, 3]);
+        let none = (none.as_ptr(), none.len());
+        assert_eq!(found(none, 0), [0, 0, 0, 0, 0, 1, NONE]);
+    }
+
+    /// A plan may be 0, and is one all the same.
+    #[test]
+    fn a_plan_is_told_from_none() {
+        let b1 = include_bytes!("../../../examples/B1/sheet");
+        let plans = [0, 1, 2, u64::MAX].map(|budget| search(b1, budget).plan);
+        assert_eq!(plans, [None, Some(0), Some(0), Some(0)]);
+    }
+
+    /// A sheet of variables that cost 1 each, with as many clauses as there may be, all the same: what the writer takes grows a
+    /// little with their number.
+    fn most_clauses(variables: u16, clause: &[u16]) -> Vec<u8> {
+        let count = 4_096_u16;
+        let body: Vec<u8> = clause.iter().flat_map(|code| code.to_le_bytes()).collect();
+        let mut sheet = [variables, count].map(u16::to_le_bytes).concat();
+        sheet.extend([1, 0, 0, 0].repeat(variables.into()));
+        let first = sheet.len() + 8 * usize::from(count);
+        for place in 0..usize::from(count) {
+            let pair = [first + place * body.len(), body.len()];
+            sheet.extend(pair.map(|n| (n as u32).to_le_bytes()).concat());
+        }
+        sheet.extend(body.repeat(count.into()));
+        sheet
+    }
+
+    /// What comes of calls in a thread with so many KB of stack, of which some go to the thread itself.
+    fn with_stack<T: Send + 'static>(size: usize, calls: fn() -> T) -> T {
+        let thread = std::thread::Builder::new().stack_size(size * 1024);
+        thread.spawn(calls).unwrap().join().unwrap()
+    }
+
+    /// Less than 88 KB for a call that does not search.
     #[test]
     fn a_small_stack_is_enough() {
         let calls = || {
             let sheet = include_bytes!("../../../examples/D/sheet");
             let record = include_bytes!("../../../examples/D/record");
-            let most = most_clauses();
+            let most = most_clauses(1, &[]);
             let mut out = most.clone();
             let length = write_sheet(&most, &mut out).length;
             (
@@ -262,8 +346,18 @@ mod tests {
                 length,
             )
         };
-        let thread = std::thread::Builder::new().stack_size(88 * 1024);
-        let done = thread.spawn(calls).unwrap().join().unwrap();
-        assert_eq!(done, (11, 6, 16));
+        assert_eq!(with_stack(88, calls), (11, 6, 16));
+    }
+
+    /// Less than 336 KB for a search, which goes as deep as there are variables: all of them are chosen, one below the other,
+    /// or all but the last, which each of the clauses forces.
+    #[test]
+    fn a_search_goes_deep_in_little_stack() {
+        let calls = || {
+            let free = most_clauses(64, &[3, 129]);
+            let forced = most_clauses(64, &[2, 128]);
+            [free, forced].map(|sheet| search(&sheet, 1_000).choices)
+        };
+        assert_eq!(with_stack(336, calls), [128, 126]);
     }
 }

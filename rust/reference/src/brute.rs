@@ -5,7 +5,7 @@ use crate::layout::number;
 use crate::literal::Literal;
 use crate::record::ASSIGNMENT_START;
 use crate::sheet::{self, Sheet};
-use crate::{sheet_is_valid, Answer, NONE};
+use crate::{sheet_is_valid, Answer, Found, NONE};
 use std::collections::BTreeSet;
 
 /// The most variables for which all assignments are tried.
@@ -61,6 +61,54 @@ pub fn confirms_within(sheet: &[u8], record: &[u8], answer: &Answer) -> bool {
         return false;
     };
     said.is_model_at_claim() && least_cost(sheet).is_some_and(|least| least >= floor)
+}
+
+/// A sheet of which every assignment has been tried, so that the answers of many searches can be held to it.
+pub struct Tried {
+    problem: Problem,
+    first_least: Option<u32>,
+}
+
+impl Tried {
+    /// `None` for a sheet that is not [`within_reach`].
+    pub fn on(sheet: &[u8]) -> Option<Tried> {
+        let problem = Problem::of(&read(sheet)?);
+        let first_least = problem.first_least();
+        Some(Tried {
+            problem,
+            first_least,
+        })
+    }
+
+    /// The least cost of an assignment that satisfies every clause, if one does, and the first assignment of that cost.
+    /// Of two, that one is first which has false for the lowest-numbered variable in which they differ.
+    pub fn first_least(&self) -> Option<(u64, u64)> {
+        let plan = self.first_least?;
+        Some((self.problem.cost(plan), u64::from(plan)))
+    }
+
+    /// What the search of this sheet answered to the budget is true, as far as that can be told without the branches:
+    ///
+    /// - the plan, if any, satisfies every clause;
+    /// - the choices are within the budget, and are all of it unless the search ended;
+    /// - no assignment that satisfies every clause costs less than the floor;
+    /// - if the search ended, its plan is the first of least cost, and the floor is that cost; or there is no plan
+    ///   because there is none, and the floor is "none".
+    ///
+    /// False for a refusal.
+    pub fn confirms(&self, budget: u64, found: &Found) -> bool {
+        let least = self.first_least();
+        let (least_cost, first_plan) = (least.map_or(NONE, |l| l.0), least.map(|l| l.1));
+        let is_model = |plan| self.problem.is_model(plan);
+        let is_searched = (found.number, found.place) == (0, 0);
+        let is_paid = found.choices <= budget && (found.ended || found.choices == budget);
+        let is_last = found.plan == first_plan && found.floor == least_cost;
+        is_searched
+            && is_paid
+            && found.plan.is_none_or(is_model)
+            && found.floor <= least_cost
+            && (!found.ended || is_last)
+    }
 }
 
 /// What a record on a sheet within reach says, its steps apart.
@@ -147,6 +195,19 @@ impl Problem {
             true_positive != 0 || true_negative != 0
         };
         self.clauses.iter().all(satisfied)
+    }
+
+    /// The first, in the order of a search, of the assignments that satisfy every clause at the least cost.
+    fn first_least(&self) -> Option<u32> {
+        let assignments = 0..1_u32 << self.costs.len();
+        let satisfying = assignments.filter(|assignment| self.satisfied_by(*assignment));
+        // Turned round, variable 1 is the highest bit: the lesser number has false where two first differ.
+        satisfying.min_by_key(|assignment| (self.cost(*assignment), assignment.reverse_bits()))
+    }
+
+    /// The plan satisfies every clause, and has no bit but those of the variables.
+    fn is_model(&self, plan: u64) -> bool {
+        plan >> self.costs.len() == 0 && self.satisfied_by(plan as u32)
     }
 
     fn cost(&self, assignment: u32) -> u64 {

@@ -1,5 +1,5 @@
-//! The reference checker: document 01, with changes 1, 2, 3, 5, 6 and 7 of document 02, in the plainest Rust there is.
-//! Change 4 alters no answer.
+//! The reference checker: document 01, with changes 1, 2, 3, 5, 6, 7 and 8 of document 02, in the plainest Rust there
+//! is. Change 4 alters no answer.
 //!
 //! It exists to be compared with the proved checker, so it shares nothing with it and prefers sets, copies and
 //! wide numbers to speed. Each function is meant to be held beside one row of document 01's refusal table,
@@ -19,7 +19,7 @@
 //! | weighted clauses (001, 5.1.2) | kind 5 |
 //!
 //! There are four kinds of answer, and a [`Verdict`] names them: two acceptances, "within", and the refusals. Writing a
-//! sheet judges nothing, and answers with [`Written`].
+//! sheet judges nothing, and answers with [`Written`]; nor does searching one for a plan, which answers with [`Found`].
 
 #![forbid(unsafe_code)]
 #![warn(missing_docs)]
@@ -35,6 +35,7 @@ mod literal;
 mod record;
 mod refusal;
 mod resolution;
+mod search;
 mod sheet;
 mod show;
 mod steps;
@@ -43,6 +44,7 @@ mod write;
 
 pub use answer::{Answer, Verdict};
 pub use judge::{judge, oversize, sheet_is_valid};
+pub use search::{search, Found};
 pub use show::{line, show};
 pub use write::{write_sheet, Written};
 

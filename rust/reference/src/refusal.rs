@@ -38,3 +38,4 @@ pub(crate) const SHARED_PADDLE: u32 = 22;
 pub(crate) const WEIGHTS: u32 = 23;
 pub(crate) const LINEAR_BOUND: u32 = 24;
 pub(crate) const SHORT_BUFFER: u32 = 25;
+pub(crate) const MANY_PADDLES: u32 = 26;

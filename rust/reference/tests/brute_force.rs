@@ -2,9 +2,10 @@
 
 mod common;
 
+use common::searcher::not_searched;
 use common::*;
-use reference::brute::{confirms, confirms_within, least_cost, within_reach};
-use reference::{judge, Answer};
+use reference::brute::{confirms, confirms_within, least_cost, within_reach, Tried};
+use reference::{judge, Answer, Found};
 
 #[test]
 fn least_costs_of_the_cases() {
@@ -253,4 +254,80 @@ fn it_does_not_confirm_a_gap_of_a_false_claim() {
     assert!(!confirmed(9, 0b11, 2), "this one costs 8");
     assert!(!confirmed(8, 0b111, 3), "there is no variable 3");
     assert!(!confirmed(NONE, 0b00, 0), "none is no cost");
+}
+
+/// Variable 1 decides before variable 2, and the last variable, which costs nothing, last of all.
+#[test]
+fn the_first_least_has_false_where_two_first_differ() {
+    let first_least = |costs: &[u32], clauses: &[&[u16]]| {
+        let tried = Tried::on(&sheet(costs, clauses)).unwrap();
+        tried.first_least()
+    };
+    let some: &[u16] = &[pos(1), pos(2)];
+    assert_eq!(first_least(&[4, 4, 0], &[some]), Some((4, 0b010)));
+    let but_not_2: &[u16] = &[pos(1), neg(2), pos(3)];
+    assert_eq!(
+        first_least(&[4, 4, 0], &[some, but_not_2]),
+        Some((4, 0b110))
+    );
+    assert_eq!(
+        first_least(&[4, 5, 0], &[some, but_not_2]),
+        Some((4, 0b001))
+    );
+    assert_eq!(
+        first_least(&[0; 20], &[&[pos(1), pos(20)]]),
+        Some((0, 1 << 19))
+    );
+    assert_eq!(first_least(&[4], &[&[]]), None);
+    assert!(Tried::on(&sheet(&[5; 21], &[])).is_none());
+    assert!(Tried::on(&[]).is_none());
+}
+
+/// Variable 1, of cost 1, is the first least plan; variable 2, of cost 10, and both are plans too.
+#[test]
+fn it_confirms_what_is_true_of_a_search_and_nothing_else() {
+    let tried = Tried::on(&sheet(&[1, 10], &[&[pos(1), pos(2)]])).unwrap();
+    let open = Found {
+        plan: Some(0b10),
+        choices: 2,
+        ..not_searched(0, 0)
+    };
+    let confirmed = |change: fn(&mut Found)| {
+        let mut found = open;
+        change(&mut found);
+        tried.confirms(2, &found)
+    };
+    assert!(confirmed(|_| {}));
+    assert!(confirmed(|found| found.floor = 1));
+    assert!(confirmed(|found| found.plan = None));
+    assert!(!confirmed(|found| found.floor = 2), "variable 1 costs 1");
+    assert!(!confirmed(|found| found.plan = Some(0)), "clause 1");
+    assert!(!confirmed(|found| found.plan = Some(0b110)), "variable 3");
+    assert!(!confirmed(|found| found.choices = 1), "a unit is left");
+    assert!(!confirmed(|found| found.choices = 3), "over the budget");
+    assert!(!confirmed(|found| found.ended = true), "not the least");
+    assert!(!confirmed(|found| found.number = 26), "a refusal");
+    assert!(!confirmed(|found| found.place = 1), "no place to name");
+}
+
+#[test]
+fn it_confirms_an_end_by_the_first_least_plan_or_none() {
+    let ended = |plan, floor| Found {
+        plan,
+        choices: 4,
+        ended: true,
+        floor,
+        ..not_searched(0, 0)
+    };
+    let some = Tried::on(&sheet(&[1, 1], &[&[pos(1), pos(2)]])).unwrap();
+    let confirmed = |found: Found| some.confirms(4, &found) && some.confirms(9, &found);
+    assert!(confirmed(ended(Some(0b10), 1)));
+    assert!(!confirmed(ended(Some(0b01), 1)), "not the first");
+    assert!(!confirmed(ended(Some(0b11), 1)), "not the least");
+    assert!(!confirmed(ended(None, 1)) && !confirmed(ended(None, NONE)));
+    assert!(!confirmed(ended(Some(0b10), 0)), "the floor is the cost");
+    assert!(!some.confirms(3, &ended(Some(0b10), 1)), "over the budget");
+    let none = Tried::on(&sheet(&[1], &[&[pos(1)], &[neg(1)]])).unwrap();
+    assert!(none.confirms(4, &ended(None, NONE)));
+    assert!(!none.confirms(4, &ended(None, 0)) && !none.confirms(4, &ended(Some(1), NONE)));
 }

@@ -2,6 +2,7 @@
 
 mod common;
 
+use common::searcher::assert_not_searched;
 use common::*;
 use reference::{judge, oversize, sheet_is_valid};
 
@@ -39,6 +40,8 @@ fn refusal_1_comes_before_every_fault_of_the_bytes() {
     assert_eq!(judge(longest, longest), refused(2, 0));
     assert_eq!(judge(&sheet_a(), longest), refused(5, 0));
     assert!(!sheet_is_valid(&too_long));
+    assert_not_searched(&too_long, 1, 0);
+    assert_not_searched(longest, 2, 0);
 }
 
 #[test]

@@ -8,6 +8,7 @@ pub mod examples;
 pub mod greatest;
 pub mod outcome;
 pub mod random;
+pub mod searching;
 pub mod sheets;
 pub mod weights;
 pub mod widening;

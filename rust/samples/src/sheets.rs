@@ -6,7 +6,10 @@ use planner::{Literal, Problem, MOST_VARIABLES};
 /// How costs are drawn.
 #[derive(Clone, Copy, Debug)]
 pub enum Costs {
+    Zero,
     Equal,
+    /// 0 to 2, so that a sum is met in many ways.
+    Few,
     /// 0 to 9, so that ties and zeros are common.
     Small,
     /// The whole range, with both ends more often than chance would give them.
@@ -44,7 +47,9 @@ pub fn problem(shape: &Shape, random: &mut Random) -> Problem {
 fn cost(costs: Costs, random: &mut Random) -> u32 {
     let any = random.next_u64() as u32;
     match (costs, random.below(4)) {
+        (Costs::Zero, _) => 0,
         (Costs::Equal, _) => 1,
+        (Costs::Few, _) => any % 3,
         (Costs::Small, _) => any % 10,
         (Costs::Any, 0) => 0,
         (Costs::Any, 1) => u32::MAX,

@@ -215,7 +215,7 @@ fn others(content: &Content, random: &mut Random) -> Vec<Case> {
 }
 
 /// A fault for each of the refusals that look at the bytes of a sheet, two of them at once, and one made without looking.
-fn damaged(content: &Content, random: &mut Random) -> Vec<Case> {
+pub(crate) fn damaged(content: &Content, random: &mut Random) -> Vec<Case> {
     let draft = somehow(content, random).draft();
     let any @ [two, three, four] = [2, 3, 4].map(|number| aimed_at(number, random));
     let pair = [any[random.below(3)], any[random.below(3)]];

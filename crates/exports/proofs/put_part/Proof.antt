@@ -5,8 +5,8 @@ use borrow.Author.Needs.{needs}
 use Rattle.exports.proofs.put_part.Statement.{statement}
 use Rattle.exports.proofs.put_part.Tie as tie
 
-file-number-requires : tie.Need-file-number-requires
-file-number-requires c κs = search needs
+flag-requires : tie.Need-flag-requires
+flag-requires c κs = search needs
 
 slice-write-out : tie.Need-slice-write-out
 slice-write-out c = search needs
@@ -21,13 +21,13 @@ same-length : tie.Need-same-length
 same-length c = search needs
 
 returns : tie.Need-returns
-returns c = rw (← c .file-number .ensures) (three (c .before .before .args .out .now) (c .before .before .pre) _ _ _)
+returns c = rw (← c .flag .ensures) (three (c .before .before .args .out .now) (c .before .before .pre) _ _ _)
 
 pub put-part-spec : {M : Type 1} → statement M
 put-part-spec =
     tie.close
     (tie.spec
-    file-number-requires
+    flag-requires
     slice-write-out
     slice-write-out-2
     slice-write-out-3

@@ -4,6 +4,7 @@
 #![allow(dead_code)]
 
 pub mod derivation;
+pub mod searcher;
 pub mod writer;
 
 use reference::Answer;

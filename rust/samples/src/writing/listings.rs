@@ -18,7 +18,7 @@ pub const LISTINGS: &[(&str, Way)] = &[
     ("repeated here and there", repeated),
 ];
 
-pub fn shuffle(list: &mut [Vec<u16>], random: &mut Random) {
+pub fn shuffle<T>(list: &mut [T], random: &mut Random) {
     for end in (1..list.len()).rev() {
         list.swap(end, random.below(end + 1));
     }
