@@ -35,7 +35,7 @@ static int print_plan(const uint64_t answer[7])
     return written < 0 ? written : printf("\n");
 }
 
-/* The floor alone says something of the least cost before the search has ended. */
+/* No plan costs less than this, whether the search has ended or not. */
 static int print_floor(const uint64_t answer[7])
 {
     if (answer[PLAN_FLOOR] == PLAN_NONE)

@@ -1,5 +1,5 @@
-//! Measures the proved checker beside the checker written for speed, and the proved writer beside such writers. `bench/run`,
-//! at the repository's root, builds it and explains it.
+//! Measures the proved checker beside the checker written for speed, the proved writer beside such writers, and the
+//! proved search beside such searches. `bench/run`, at the repository's root, builds it and explains it.
 
 mod searches;
 mod writers;

@@ -122,7 +122,7 @@ impl<F: Force> Search<F> {
             self.depth = depth;
             *state = self.nodes[depth % SEARCHED];
             let variable = self.lowest_unsettled(state);
-            // What it costs already may leave it, whatever is forced. Half of all choices end here.
+            // What it costs already may leave it, whatever is forced. Up to half of all choices end here.
             if self.limits.pay(state, 1 << variable) {
                 let choice = Choice {
                     variable,

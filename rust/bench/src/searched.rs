@@ -30,7 +30,8 @@ pub const SETS: [(&str, Shape); 14] = [
     ("none-64-1000", of(shape(64, 1000), 4, 4, 50)),
 ];
 
-/// With this one, short searches are not as short as to be learnt, and that of the sheet without a plan comes to its end.
+/// With this one, no search is so short that the processor learns its branches, and that of the sheet without a plan comes to its
+/// end.
 const SEED: u64 = 15;
 
 /// Clauses of four to ten literals, most of them positive: what has to be covered, with some exceptions.

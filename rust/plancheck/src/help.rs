@@ -16,7 +16,7 @@ plancheck: judges plans by the proved checker, and shows, writes, searches, plan
   plancheck import FILE.wcnf -o SHEET        a sheet from the weighted DIMACS form
 
 plancheck COMMAND --help says more. docs/GUIDE.md is a first hour with all of them.
-Exit codes: 0 done or accepted, 1 refused, 2 wrong use, a file that cannot be read or written, or a search that was stopped and
+Exit codes: 0 done or accepted, 1 refused, 2 wrong use, a file that cannot be read or written, or planning that was stopped and
 has nothing to say, 3 within a gap, which is neither accepted nor refused.
 ";
 
@@ -143,7 +143,7 @@ Finds a least-cost assignment by branch and bound, writes the record, and prints
 take long on large sheets. --unweighted does without weighted steps. --tree tries every assignment instead, for 16 variables at
 most. Costs include the loss of a marked sheet. Exit codes as with judge.
 
---steps N writes N steps at most. The search then stops after 10,000 conflicts, and one more for each step. Where it has come to
+--steps N writes N steps at most. The planner then stops after 10,000 conflicts, and one more for each step. Where it has come to
 its end by then, and its proof has N steps at most, the record is the one that it writes without --steps. Else it is the best
 assignment found, with as good a lower bound as N steps give, and the answer is 'within' unless that bound is the cost. Where
 no assignment was found, and the steps do not show that none exists, nothing is written and the exit code is 2. Not with --tree.

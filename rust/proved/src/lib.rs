@@ -98,9 +98,10 @@ pub struct Found {
     pub plan: Option<u64>,
     /// How many choices were made: the whole budget, unless the search ended.
     pub choices: u64,
-    /// Whether every branch was tried: without a plan no assignment satisfies every clause.
+    /// Whether every branch was tried; if so and there is no plan, no assignment satisfies every clause.
     pub ended: bool,
-    /// No assignment that satisfies every clause costs less. [`NONE`] where no plan was found and no branch is left.
+    /// No assignment that satisfies every clause costs less. [`NONE`] where there is no plan and no untried branch; 0 with a
+    /// refusal.
     pub floor: u64,
 }
 
