@@ -3,9 +3,9 @@
  * A file is its bytes and their number; any bytes are answered for, also none: with the number 0 nothing is read through the
  * pointer, which may be NULL. The calls only read the files, keep nothing, and may be made from several threads at once. The
  * two files may overlap, or be one. The array that a call writes, answer or part, may not overlap either file, nor what a call
- * that is made at the same time reads or writes; it may not be NULL. The same goes for the buffer that plan_write_sheet writes,
- * out, which may not overlap its answer either; but where it has no bytes, out may be NULL. A call takes less than 88 KB of
- * stack, plan_search less than 336 KB. */
+ * that is made at the same time reads or writes; it may not be NULL. The same goes for the buffers that plan_write_sheet and
+ * plan_trim write, out and marks, which may not overlap each other or the answer either; but where a buffer has no bytes, it may
+ * be NULL. A call takes less than 88 KB of stack, plan_search less than 336 KB. */
 #ifndef PLAN_H
 #define PLAN_H
 
@@ -38,7 +38,7 @@ void plan_judge(const uint8_t *sheet, size_t sheet_len, const uint8_t *record, s
  * bytes. Of a refused record, and of a step that is not there, all three are 0. */
 void plan_show(const uint8_t *sheet, size_t sheet_len, const uint8_t *record, size_t record_len, uint32_t step, uint64_t part[3]);
 
-/* The places of the writer's numbers: PLAN_NUMBER and PLAN_PLACE, and then this one. */
+/* The places of the writer's and the trimmer's numbers: PLAN_NUMBER and PLAN_PLACE, and then this one. */
 enum { PLAN_LENGTH = 2 };
 
 /* Writes a sheet in the one way: the same variables, costs and loss, and the clauses sorted by their codes, a list before the
@@ -77,6 +77,24 @@ enum { PLAN_FOUND = 2, PLAN_PLAN, PLAN_CHOICES, PLAN_ENDED, PLAN_FLOOR };
  * one. The call takes as long as its choices do, and says nothing meanwhile: a caller who cannot wait gives a small budget. It
  * leaves no record. */
 void plan_search(const uint8_t *sheet, size_t sheet_len, uint64_t budget, uint64_t answer[7]);
+
+/* Trims a record: keeps step t, the last one, and each step that a kept one cites, in their order, and leaves out the rest. The
+ * trimmed record has the same claim and assignment, and its steps of kind 4 cite by the new numbers. Judged on the same sheet it
+ * has the record's answer but for the step count; it is no longer than the record, and trimmed again it stays as it is.
+ *
+ * The answer has the writer's three numbers. Where the number is 0, out begins with the trimmed record, of so many bytes as the
+ * length says, and the first t bytes of marks, t being the record's step count, are 1 for a kept step and 0 for another; the
+ * bytes behind both stay as they were. Where it is not, it is the refusal's number in the table of docs/FORMATS.md, with its
+ * place, the length is 0, and all of out stays as it was:
+ *
+ *   27        marks has fewer than t bytes. The place is 0;
+ *   28        out is shorter than the trimmed record. The place is 0, and the marks are written, so that they tell which steps
+ *             would be kept;
+ *   another   the record is refused, as plan_judge has it; one that is within is not.
+ *
+ * After any refusal but 28, marks stays as it was too. An out as long as the record is always enough. */
+void plan_trim(const uint8_t *sheet, size_t sheet_len, const uint8_t *record, size_t record_len, uint8_t *marks, size_t marks_len,
+               uint8_t *out, size_t out_len, uint64_t answer[3]);
 
 #ifdef __cplusplus
 }

@@ -1,4 +1,4 @@
-/* A file read whole, for the programs in this folder. */
+/* A file read or written whole, for the programs in this folder. */
 #ifndef FILE_H
 #define FILE_H
 
@@ -49,6 +49,19 @@ static int read_file(const char *path, struct file *file)
         fclose(stream);
     if (!done)
         fprintf(stderr, "cannot read %s\n", path);
+    return done;
+}
+
+/* Inline, so that no compiler warns of it in the programs that only read. */
+static inline int write_file(const char *path, const uint8_t *bytes, size_t len)
+{
+    FILE *stream = fopen(path, "wb");
+    int done = stream != NULL && fwrite(bytes, 1, len, stream) == len;
+    /* What is left of it may be written only now. */
+    if (stream != NULL && fclose(stream) != 0)
+        done = 0;
+    if (!done)
+        fprintf(stderr, "cannot write %s\n", path);
     return done;
 }
 

@@ -13,18 +13,6 @@
 #include "file.h"
 #include "plan.h"
 
-static int write_file(const char *path, const uint8_t *bytes, size_t len)
-{
-    FILE *stream = fopen(path, "wb");
-    int done = stream != NULL && fwrite(bytes, 1, len, stream) == len;
-    /* What is left of it may be written only now. */
-    if (stream != NULL && fclose(stream) != 0)
-        done = 0;
-    if (!done)
-        fprintf(stderr, "cannot write %s\n", path);
-    return done;
-}
-
 /* What the program exits with, for a sheet and a buffer as long as it, which is always enough. */
 static int write_sheet(const struct file *sheet, uint8_t *out, const char *path)
 {

@@ -10,6 +10,7 @@ ghost use Rattle.judgement.specs.Judgement.{judgement, shownPart};
 ghost use Rattle.judgement.specs.Place.{Inside};
 ghost use Rattle.writer.specs.Canonical.{writing, leaves};
 ghost use Rattle.search.specs.Answer.{found};
+ghost use Rattle.trimmer.specs.Trim.{trimming, marksLeft, outputLeft};
 ghost use Rattle.exports.specs.Numbers.{answerNumbers, partNumbers, writtenNumbers, foundNumbers};
 
 fn put_answer(a: Answer, out: &mut [u64])
@@ -99,4 +100,21 @@ pub extern "C" fn plan_search(sheet: &[u8], budget: u64, answer: &mut [u64; 7])
     ensures { λ _. ⌜ now (answer .exit) ≡ foundNumbers (found (now (sheet .entry)) budget) ⌝ }
 {
     put_found(search::search(sheet, budget), answer);
+}
+
+// Trims the record: marks at the beginning of `marks`, the kept steps as a record at the beginning of `out`; number, place and the
+// number of bytes written there. What these and the buffers come to is in the contract of `trimmer::trim`.
+#[no_mangle]
+pub extern "C" fn plan_trim(
+    sheet: &[u8],
+    record: &[u8],
+    marks: &mut [u8],
+    out: &mut [u8],
+    answer: &mut [u64; 3],
+)
+    ensures answer { λ _. ⌜ now (answer .exit) ≡ writtenNumbers (trimming (now (sheet .entry)) (now («record» .entry)) (length (now (marks .entry))) (length (now (out .entry)))) ⌝ }
+    ensures marked { λ _. ⌜ now (marks .exit) ≡ marksLeft (now (sheet .entry)) (now («record» .entry)) (now (marks .entry)) ⌝ }
+    ensures buffer { λ _. ⌜ now (out .exit) ≡ outputLeft (now (sheet .entry)) (now («record» .entry)) (length (now (marks .entry))) (now (out .entry)) ⌝ }
+{
+    put_written(trimmer::trim(sheet, record, marks, out), answer);
 }

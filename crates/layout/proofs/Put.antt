@@ -45,7 +45,7 @@ four-put x l f h =
 
 -- ---- two numbers of 4 bytes
 
-length-pair : (x y : ℕ) → length (bytesOf 4 x ++ bytesOf 4 y) ≡ 8
+pub length-pair : (x y : ℕ) → length (bytesOf 4 x ++ bytesOf 4 y) ≡ 8
 length-pair x y = length-append (bytesOf 4 x) (bytesOf 4 y) ∙ rw (length-bytes 4 x, length-bytes 4 y)
 
 pub no-pair : (x y : ℕ) (l : List ℕ) → length l < 8 → l ≡ put (bytesOf 4 x ++ bytesOf 4 y) l

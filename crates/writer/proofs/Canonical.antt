@@ -6,7 +6,6 @@ use mathlib.Core.Bool.{cond}
 use mathlib.Core.List.{List, [], _∷_, _++_, map}
 use mathlib.Core.Logic.{_↔_, inl, inr}
 use native.Mathlib.Omega.{arith}
-use native.Mathlib.Decide.{decLt}
 use borrow.Author.Tests.{le-leb}
 use lib.ListN.{length, getD, drop, length-append, length-take, length-map, List·getD-map}
 use Rattle.judgement.specs.Scan.{sumOf, listOf}
@@ -16,7 +15,7 @@ use Rattle.judgement.specs.Literals.{count, code, codesIn, holds}
 use Rattle.judgement.specs.declared.Finding.the-variants.{Fine}
 use Rattle.judgement.specs.Sheet.{variables, clauses, lossAt, clausePairsAt, costOf, loss, clause, problemOf, aloneFinding}
 use Rattle.judgement.specs.Writer.{bytesOf, numbersOf, pairsOf, joined, fileOf, markOf, lossOf, sheetOf}
-use Rattle.judgement.specs.Facts.{Among, OneOf, In, PairRule, LiteralList, ValidSheet}
+use Rattle.judgement.specs.Facts.{Among, OneOf, In, LiteralList, ValidSheet}
 use Rattle.judgement.specs.Demands.{IsBytes}
 use Rattle.judgement.proofs.Laws.Scan.{sum-same, sum-most, length-list, list-at, list-same}
 use Rattle.judgement.proofs.Laws.Stored.{number-below}
@@ -28,6 +27,7 @@ use Rattle.judgement.proofs.Complete.Typed.{Ascending}
 use Rattle.judgement.proofs.Complete.Codes.{codes-ascending}
 use Rattle.judgement.proofs.Laws.Findings.{fine-is}
 use Rattle.judgement.proofs.Laws.Buffer.{over-again}
+use Rattle.judgement.proofs.Laws.Table.{lengths-fill}
 use Rattle.judgement.proofs.Facts.Layouts.{valid-alone}
 use Rattle.judgement.proofs.Complete.Bytes.{length-bytes, length-numbers, nil-bytes, bytes-are-bytes, append-bytes, numbers-are-bytes}
 use Rattle.judgement.proofs.Complete.Written.{pairs-bytes}
@@ -93,33 +93,6 @@ sorted-length f (suc m) =
     let a = insert-length (f (suc m)) (sorted f m) in
     let b = sorted-length f m in
     omega arith
-
--- body k ends where the lengths up to it say
-ends : (f : List ℕ) (at m : ℕ) → PairRule f at m → (k : ℕ) → Among m k
-    → pairOffset f at k + pairLength f at k ≡ at + 8 * m + sumOf (pairLength f at) k
-unfolding sumOf
-ends f at m r zero (l, h) = absurd (omega arith)
-ends f at m r (suc k) w = go (decLt 0 k) (ends f at m r k)
-  where
-    go : Dec (0 < k) → (Among m k → pairOffset f at k + pairLength f at k ≡ at + 8 * m + sumOf (pairLength f at) k)
-        → pairOffset f at (suc k) + pairLength f at (suc k) ≡ at + 8 * m + (sumOf (pairLength f at) k + pairLength f at (suc k))
-    go (yes l) i =
-        let e : k + 1 ≡ suc k = omega arith in
-        let a = rw e at (r .later k l (omega (arith, w .1))) in
-        let b = i (l, omega (arith, w .1)) in
-        omega (arith, a, b)
-    go (no l) i =
-        let e : k ≡ 0 = omega arith in
-        let a = r .first (omega (arith, w .1)) in
-        rw e (omega (arith, a))
-
-lengths-fill : (f : List ℕ) (at m : ℕ) → PairRule f at m → at + 8 * m + sumOf (pairLength f at) m ≡ length f
-unfolding sumOf
-lengths-fill f at zero r = let e = r .empty refl in omega (arith, e)
-lengths-fill f at (suc m) r =
-    let a = ends f at (suc m) r (suc m) (omega arith, omega arith) in
-    let b = r .last (omega arith) in
-    sym a ∙ b
 
 -- a body written anew is not longer than its pair says
 written-size : (f : List ℕ) (at k : ℕ) → length (numbersOf 2 (codesIn (body f at k))) ≤ pairLength f at k

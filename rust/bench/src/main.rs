@@ -1,7 +1,9 @@
-//! Measures the proved checker beside the checker written for speed, the proved writer beside such writers, and the
-//! proved search beside such searches. `bench/run`, at the repository's root, builds it and explains it.
+//! Measures the proved checker beside the checker written for speed, and so the proved writer beside such writers, the
+//! proved search beside such searches, and the proved trimmer beside such trimmers. `bench/run`, at the repository's root,
+//! builds it and explains it.
 
 mod searches;
+mod trims;
 mod writers;
 
 use bench::{judge, Marks, Merge};
@@ -21,7 +23,10 @@ const USAGE: &str = "usage: bench times MEGABYTES ROUNDS SET..
        bench writers once proved|decoded|stored|bytes|nothing FOLDER
        bench searches times ROUNDS SET..
        bench searches sheet SET FOLDER
-       bench searches once proved|watched|sliced|again|nothing FOLDER";
+       bench searches once proved|watched|sliced|again|nothing FOLDER
+       bench trims times MEGABYTES ROUNDS SET..
+       bench trims record SET MEGABYTES FOLDER
+       bench trims once proved|listed|runs|judge|marks|nothing FOLDER";
 
 const SEED: u64 = 11;
 const MEGABYTE: usize = 1_000_000;
@@ -48,12 +53,17 @@ const JOBS: [(&str, Job); 5] = [
     ("merge", |sheet, record| {
         judge::<Merge>(sheet, record).step_count
     }),
-    ("marks", |sheet, record| {
-        judge::<Marks>(sheet, record).step_count
-    }),
+    ("marks", marks),
     ("bytes", |sheet, record| byte_sum(sheet) + byte_sum(record)),
     ("nothing", |_, _| 0),
 ];
+
+/// Here alone, and not put into its callers: where the judgement is called from one place only, the compiler makes fewer
+/// instructions of it.
+#[inline(never)]
+fn marks(sheet: &[u8], record: &[u8]) -> u64 {
+    judge::<Marks>(sheet, record).step_count
+}
 
 /// How many of the jobs are timed: what "nothing" does is for the counts only.
 const TIMED: usize = 4;
@@ -71,6 +81,7 @@ fn main() {
         ["once", job, folder] => once(job, Path::new(folder)),
         ["writers", ref rest @ ..] => writers::run(rest),
         ["searches", ref rest @ ..] => searches::run(rest),
+        ["trims", ref rest @ ..] => trims::run(rest),
         _ => None,
     };
     if done.is_none() {
@@ -126,8 +137,8 @@ fn turns(size: usize) -> usize {
 
 /// The least time of each job in milliseconds, since what else the machine does can only make one longer. The jobs take turns,
 /// so that its busy moments meet all of them.
-fn least_times(turns: usize, mut run: impl FnMut(usize)) -> [f64; TIMED] {
-    let mut least = [f64::INFINITY; TIMED];
+fn least_times<const N: usize>(turns: usize, mut run: impl FnMut(usize)) -> [f64; N] {
+    let mut least = [f64::INFINITY; N];
     for _ in 0..turns {
         for (job, least) in least.iter_mut().enumerate() {
             let start = Instant::now();

@@ -26,3 +26,5 @@ pub(crate) const WEIGHTS: u64 = 23;
 pub(crate) const LINEAR_BOUND: u64 = 24;
 pub(crate) const SHORT_BUFFER: u64 = 25;
 pub(crate) const MANY_PADDLES: u64 = 26;
+pub(crate) const FEW_MARKS: u64 = 27;
+pub(crate) const SHORT_OUTPUT: u64 = 28;

@@ -39,7 +39,8 @@ fn compare(a: Codes, b: Codes) -> Ordering {
     a.cmp(b)
 }
 
-fn answer(done: Result<usize, Fault>) -> Written {
+/// What a writer or a trimmer answers that has written so many bytes, or none.
+pub(crate) fn answer(done: Result<usize, Fault>) -> Written {
     let (number, place, length) = match done {
         Ok(length) => (0, 0, length as u64),
         Err(Fault { number, place }) => (number, place, 0),

@@ -1,10 +1,12 @@
-//! The example programs of `bindings/`, built and run: every plan of `examples/` gives its line and exit code, and its sheet is
-//! written in the one way and searched; and the C programs make no memory error that valgrind sees, whatever the files hold.
+//! The example programs of `bindings/`, built and run: every plan of `examples/` gives its line and exit code, its sheet is
+//! written in the one way and searched, and its record trimmed; and the C programs make no memory error that valgrind sees,
+//! whatever the files hold.
 
 use planner::{format, Literal, Problem};
-use reference::{Found, Verdict};
+use reference::{Found, Verdict, Written};
 use samples::examples::{example, examples, Example};
 use samples::writing::Listing;
+use samples::Sample;
 use std::collections::BTreeMap;
 use std::fs;
 use std::path::{Path, PathBuf};
@@ -104,26 +106,39 @@ fn the_rust_program_gives_every_line() {
     tells_wrong_use(&program);
 }
 
-/// What the C writer does to a sheet and to a file that holds something already: the reference writer's bytes, or its
-/// refusal, which leaves that file alone. `start` gets the program's two words.
-fn writes(mut start: Command, folder: &Path, sheet: &[u8], what: &str) {
-    let files = ["sheet", "written"].map(|name| folder.join(name));
+/// What a C program that writes does to a file that holds something already, the last of its words: the bytes that are wanted,
+/// or the refusal, which leaves that file alone. What stands in the file then.
+fn leaves(
+    mut start: Command,
+    files: &[PathBuf],
+    answer: Written,
+    mut bytes: Vec<u8>,
+    what: &str,
+) -> Vec<u8> {
     let before = b"before".to_vec();
-    fs::write(&files[0], sheet).unwrap();
-    fs::write(&files[1], &before).unwrap();
-    let mut wanted = vec![0; sheet.len()];
-    let answer = reference::write_sheet(sheet, &mut wanted);
-    wanted.truncate(answer.length as usize);
+    let out = files.last().unwrap();
+    fs::write(out, &before).unwrap();
+    bytes.truncate(answer.length as usize);
     let refusal = format!("refused {} at {}\n", answer.number, answer.place);
     let (code, line, wanted) = match answer.number {
-        0 => (0, String::new(), wanted),
+        0 => (0, String::new(), bytes),
         _ => (1, refusal, before),
     };
-    let output = run(start.args(&files));
+    let output = run(start.args(files));
     let said = String::from_utf8_lossy(&output.stderr);
     assert_eq!(output.status.code(), Some(code), "{what}\n{said}");
     assert_eq!(String::from_utf8_lossy(&output.stdout), line, "{what}");
-    assert!(fs::read(&files[1]).unwrap() == wanted, "{what}");
+    assert!(fs::read(out).unwrap() == wanted, "{what}");
+    wanted
+}
+
+/// What the C writer does to a sheet: what the reference writer does. `start` gets the program's two words.
+fn writes(start: Command, folder: &Path, sheet: &[u8], what: &str) {
+    let files = ["sheet", "written"].map(|name| folder.join(name));
+    fs::write(&files[0], sheet).unwrap();
+    let mut bytes = vec![0; sheet.len()];
+    let answer = reference::write_sheet(sheet, &mut bytes);
+    leaves(start, &files, answer, bytes, what);
 }
 
 /// The sheet with its clauses listed a second time: what is written of it is shorter.
@@ -226,6 +241,53 @@ fn the_c_search_finds_the_plan_of_every_sheet() {
     );
 }
 
+/// What the C trimmer does to a record: what the reference trimmer does. `start` gets the program's three words.
+fn trims(start: Command, folder: &Path, sheet: &[u8], record: &[u8], what: &str) -> Vec<u8> {
+    let files = ["sheet", "record", "trimmed"].map(|name| folder.join(name));
+    fs::write(&files[0], sheet).unwrap();
+    fs::write(&files[1], record).unwrap();
+    let mut marks = vec![0; reference::judge(sheet, record).step_count as usize];
+    let mut bytes = vec![0; record.len()];
+    let answer = reference::trim(sheet, record, &mut marks, &mut bytes);
+    leaves(start, &files, answer, bytes, what)
+}
+
+/// A folder has the trimmed record where that is another than its record, and a line that tells a refusal.
+#[test]
+fn the_c_trimmer_trims_every_record() {
+    let program = c_program("trim", "c-trim");
+    let folder = program.parent().unwrap();
+    for example in examples() {
+        let Example { sheet, record, .. } = &example;
+        let cut = &record[..record.len() - 1];
+        trims(Command::new(&program), folder, sheet, cut, "a cut record");
+        let place = example.folder.display().to_string();
+        let left = trims(Command::new(&program), folder, sheet, record, &place);
+        let wanted = match example.line.starts_with("refused") {
+            true => b"before".to_vec(),
+            false => fs::read(example.folder.join("trimmed")).unwrap_or(record.clone()),
+        };
+        assert!(left == wanted, "{place}");
+    }
+    tells_wrong_use(&program);
+    let [sheet, record] = ["sheet", "record"].map(|name| example("T1").folder.join(name));
+    let [gone, nowhere] = ["no such file", "no such folder/out"].map(PathBuf::from);
+    let calls = [
+        ([&gone, &record, &nowhere], "cannot read no such file\n"),
+        ([&sheet, &gone, &nowhere], "cannot read no such file\n"),
+        (
+            [&sheet, &record, &nowhere],
+            "cannot write no such folder/out\n",
+        ),
+    ];
+    for (words, wanted) in calls {
+        let output = run(Command::new(&program).args(words));
+        let said = String::from_utf8_lossy(&output.stderr);
+        assert_eq!((output.status.code(), &*said), (Some(2), wanted));
+        assert!(output.stdout.is_empty());
+    }
+}
+
 /// The program under valgrind.
 fn watched(program: &Path) -> Command {
     let mut command = Command::new("valgrind");
@@ -310,5 +372,24 @@ fn the_c_search_makes_no_memory_error() {
     }
     for sample in samples::stream(3).take(60).step_by(6) {
         searches(watched(&program), folder, &sample.sheet, 40);
+    }
+}
+
+#[test]
+#[ignore = "needs valgrind"]
+fn the_c_trimmer_makes_no_memory_error() {
+    let program = c_program("trim", "valgrind-trim");
+    let folder = program.parent().unwrap();
+    for name in ["D", "S1", "T1", "T2"] {
+        let Example { sheet, record, .. } = example(name);
+        let cut = &record[..record.len() - 1];
+        for file in [&[], cut, &record] {
+            trims(watched(&program), folder, &sheet, file, name);
+        }
+        trims(watched(&program), folder, &[], &record, "an empty sheet");
+    }
+    for sample in samples::stream(3).take(60).step_by(6) {
+        let Sample { sheet, record, .. } = &sample;
+        trims(watched(&program), folder, sheet, record, sample.aimed);
     }
 }

@@ -26,6 +26,16 @@ pub fn write_sheet(sheet: &[u8], out: &mut [u8]) -> Written {
     }
 }
 
+/// What the proved trimmer answers, as the reference checker's type.
+pub fn trim(sheet: &[u8], record: &[u8], marks: &mut [u8], out: &mut [u8]) -> Written {
+    let a = proved::trim(sheet, record, marks, out);
+    Written {
+        number: u32::try_from(a.number).expect("a refusal number"),
+        place: a.place,
+        length: a.length,
+    }
+}
+
 /// What the proved search answers, as the reference checker's type.
 pub fn search(sheet: &[u8], budget: u64) -> Found {
     let a = proved::search(sheet, budget);

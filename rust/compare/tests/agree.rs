@@ -1,7 +1,7 @@
 //! The proved checker and the reference checker give the same answers: on every example, on many generated and damaged
 //! records, and on longer ones. A difference prints both files.
 
-use compare::{hex, judge, search, setting, write_sheet};
+use compare::{hex, judge, search, setting, trim, write_sheet};
 use planner::padding::Mix;
 use proved::show;
 use reference::{Found, Written};
@@ -416,6 +416,38 @@ fn refusal_1_on_files_of_4_gigabytes() {
         assert_eq!(written, sheet);
         assert!(all_zero(behind), "a byte behind the sheet");
         written.fill(0);
+    }
+    trimmed_at_the_limit(&mut too_long);
+}
+
+/// The same of trimming. The record has no idle steps, so that its own bytes are written.
+fn trimmed_at_the_limit(too_long: &mut [u8]) {
+    let Example { sheet, record, .. } = example("A1");
+    for trim in [trim, reference::trim] {
+        let (mut marks, mut out) = ([0xA5; 5], [0xA5; 200]);
+        let mut refused = |sheet: &[u8], record: &[u8]| {
+            let Written { number, length, .. } = trim(sheet, record, &mut marks, &mut out);
+            assert_eq!((length, marks, out), (0, [0xA5; 5], [0xA5; 200]));
+            number
+        };
+        assert_eq!(refused(too_long, &record), 1);
+        assert_eq!(refused(&sheet, too_long), 1);
+        assert_eq!(refused(&too_long[1..], &too_long[1..]), 2);
+        assert_eq!(refused(&sheet, &too_long[1..]), 5);
+        // Buffers are no files, and may be longer than one.
+        for is_marks in [false, true] {
+            let (answer, wanted) = if is_marks {
+                (trim(&sheet, &record, too_long, &mut out), vec![1; 5])
+            } else {
+                let answer = trim(&sheet, &record, &mut marks, too_long);
+                (answer, record.clone())
+            };
+            assert_eq!((answer.number, answer.length), (0, record.len() as u64));
+            let (written, behind) = too_long.split_at_mut(wanted.len());
+            assert_eq!(written, wanted);
+            assert!(all_zero(behind), "a byte behind what is written");
+            written.fill(0);
+        }
     }
 }
 

@@ -4,6 +4,7 @@ mod judging;
 mod planning;
 mod searching;
 mod texts;
+mod trimming;
 mod writing;
 
 use crate::args::Args;
@@ -25,13 +26,14 @@ struct Command {
 }
 
 #[rustfmt::skip]
-const COMMANDS: [Command; 9] = [
+const COMMANDS: [Command; 10] = [
     Command { name: "judge", help: help::JUDGE, known: &[], run: judging::judge },
     Command { name: "explain", help: help::EXPLAIN, known: &[], run: judging::explained },
     Command { name: "stats", help: help::STATS, known: &[], run: judging::counted },
     Command { name: "text", help: help::TEXT, known: &["--record", "-o"], run: texts::as_text },
     Command { name: "pack", help: help::PACK, known: &["-o"], run: texts::packed },
     Command { name: "write", help: help::WRITE, known: &["-o"], run: writing::written },
+    Command { name: "trim", help: help::TRIM, known: &["-o"], run: trimming::trimmed },
     Command { name: "search", help: help::SEARCH, known: &["--budget"], run: searching::searched },
     Command { name: "plan", help: help::PLAN, known: &["--tree", "--unweighted", "--steps", "-o"], run: planning::planned },
     Command { name: "import", help: help::IMPORT, known: &["-o"], run: planning::imported },

@@ -74,6 +74,13 @@ fn existing(path: &Path) -> io::Result<Option<PathBuf>> {
     }
 }
 
+/// Whether both paths lead to one file, behind all links, so that what is written to one takes the place of the other. A hard
+/// link is another file in this: it alone is replaced.
+pub fn is_same(one: &Path, other: &Path) -> bool {
+    let found = |path: &Path| fs::canonicalize(path).ok().filter(|found| found.is_file());
+    found(one).is_some_and(|one| found(other) == Some(one))
+}
+
 /// Puts a new file in the place of an old one, or leaves the old one alone.
 fn replace(old: &Path, bytes: &[u8]) -> io::Result<()> {
     // A file that may not be written is not replaced either.
@@ -162,6 +169,13 @@ pub fn refused_alone(path: &Path, sheet: &[u8], number: u64, place: u64) -> Fail
     let refused = refused_sheet(path, sheet, &answer);
     let shown = explain::sheet_alone(sheet, &answer).join("\n");
     Failure::Content(format!("{}\n{shown}", refused.message()))
+}
+
+/// The refusal of a record beside a valid sheet, with what stands at its place. What it cites is left to `explain`.
+pub fn refused_record(path: &Path, sheet: &[u8], record: &[u8], answer: &Answer) -> Failure {
+    let lines = explain::explain(sheet, record, answer);
+    let shown: Vec<String> = lines.into_iter().take(3).collect();
+    Failure::Content(format!("{}: {}", path.display(), shown.join("\n")))
 }
 
 /// The record, where the proved checker has nothing against its head and its pairs.

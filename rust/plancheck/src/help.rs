@@ -1,7 +1,7 @@
 //! What each command is for, and how it is called.
 
 pub const ALL: &str = "\
-plancheck: judges plans by the proved checker, and shows, writes, searches, plans and imports them
+plancheck: judges plans by the proved checker, and shows, trims, writes, searches, plans and imports them
 
   plancheck judge SHEET RECORD               the answer, as one line
   plancheck explain SHEET RECORD             the answer in plain words, with its place
@@ -10,6 +10,7 @@ plancheck: judges plans by the proved checker, and shows, writes, searches, plan
   plancheck text --record SHEET RECORD       the record as text
   plancheck pack TEXT -o FILE                from text back to bytes
   plancheck write SHEET -o OUT               the sheet in the one way to write it, to compare it with others
+  plancheck trim SHEET RECORD -o OUT         the record without the steps that lead nowhere
   plancheck search SHEET                     the best plan that the proved search finds, without a record
   plancheck plan SHEET -o RECORD             plans the sheet
   plancheck plan --steps N SHEET -o RECORD   plans it in N steps at most, and stops early if they do not suffice
@@ -58,8 +59,9 @@ pub const STATS: &str = "\
 plancheck stats SHEET RECORD
 
 Prints the proved checker's line, then counts: steps by kind, literals, clauses with weights, bytes, the depth of the last
-step's derivation, and how many earlier steps the last one rests on. The line of a marked sheet has its loss. Exit code 0
-whatever the first line says, 1 where the layout cannot be read.
+step's derivation, and how many earlier steps the last one rests on. Where a record that is not refused has further steps, they
+are counted as idle: 'plancheck trim' leaves them out. The line of a marked sheet has its loss. Exit code 0 whatever the first
+line says, 1 where the layout cannot be read.
 ";
 
 pub const TEXT: &str = "\
@@ -108,6 +110,28 @@ Exit code 0 for a sheet that is written, 1 for a refused one, which leaves OUT a
 be read or written. Where OUT cannot be written, a file that stood there stays as it was.
 ";
 
+pub const TRIM: &str = "\
+plancheck trim SHEET RECORD -o OUT
+
+Writes the record without its idle steps, as the proved trimmer has it. The last step is kept, and each step that a kept one
+cites, in their order; all others are idle and are left out. Claim and assignment stay. Resolutions cite by the new numbers, and
+nothing else in a kept step changes. A record without idle steps stays as it is.
+
+Judged beside the same sheet, the trimmed record has the record's answer, but for the step count. What idle steps show by
+themselves is gone: where the last step is weak and an earlier one is better, the better one goes. OUT may be RECORD itself, but
+not SHEET, which would be lost.
+
+Prints how many steps are kept, the bytes after and before, which share of these is saved, rounded down ('under 1%' below that),
+and the answer; or that nothing was to be trimmed, and OUT is then a copy of RECORD. Where the answer is 'within', and an idle step
+without literals has a greater bound than the last step, one more line names the best such step, the first of several:
+
+  step 5, which is left out, shows more: bound 3
+
+Exit code 0 for a record that is trimmed, within a gap too, since the work is done: ask 'plancheck judge' for acceptance. 1 for a
+refused record or sheet, which leaves OUT as it was, 2 for wrong use and files that cannot be read or written. Where OUT cannot
+be written, a file that stood there stays as it was.
+";
+
 pub const SEARCH: &str = "\
 plancheck search [--budget N] SHEET
 
@@ -141,7 +165,8 @@ plancheck plan [--tree | --unweighted] [--steps N] SHEET -o RECORD
 
 Finds a least-cost assignment by branch and bound, writes the record, and prints what the proved checker says to it. This can
 take long on large sheets. --unweighted does without weighted steps. --tree tries every assignment instead, for 16 variables at
-most. Costs include the loss of a marked sheet. Exit codes as with judge.
+most. Costs include the loss of a marked sheet. The record has no idle steps: it is trimmed, as by 'plancheck trim', before it is
+written. Exit codes as with judge.
 
 --steps N writes N steps at most. The planner then stops after 10,000 conflicts, and one more for each step. Where it has come to
 its end by then, and its proof has N steps at most, the record is the one that it writes without --steps. Else it is the best

@@ -1,7 +1,7 @@
 //! The plan checker's command line: everything around the proved checker that a person needs to use it.
 //!
-//! Nothing here judges. Every verdict is `proved::judge`'s; what a canonical sheet is, `proved::write_sheet` says, and what a
-//! search finds, `proved::search`. The readers below take files apart to show them.
+//! Nothing here judges. Every verdict is `proved::judge`'s; what a canonical sheet is, `proved::write_sheet` says, what a search
+//! finds, `proved::search`, and what is left of a trimmed record, `proved::trim`. The readers below take files apart to show them.
 #![forbid(unsafe_code)]
 
 pub mod args;
@@ -23,6 +23,7 @@ pub mod sheet;
 pub mod stats;
 pub mod steps;
 pub mod text;
+pub mod trim;
 pub mod weighted;
 pub mod weights;
 pub mod words;

@@ -39,6 +39,8 @@ pub fn sentence(answer: &Answer, marked: bool) -> String {
         (Verdict::Refused, 12..=24) => about_step(answer.number, place, marked),
         (Verdict::Refused, 25) => "Short buffer: the sheet, written in the one way, is longer than the buffer.".to_string(),
         (Verdict::Refused, 26) => format!("Many paddles: the sheet has more variables than the {MOST_SEARCHED} that the search takes."),
+        (Verdict::Refused, 27) => "Few marks: the mark buffer has fewer bytes than the record has steps.".to_string(),
+        (Verdict::Refused, 28) => "Short output: the record, trimmed, is longer than the output.".to_string(),
         (Verdict::Refused, number) => format!("{number} is not the number of a refusal."),
     }
 }

@@ -15,6 +15,8 @@ pub struct Stats {
     pub depth: u32,
     /// How many earlier steps the last one rests on, directly or through others.
     pub needed: usize,
+    /// How many it does not rest on: those that trimming leaves out.
+    pub idle: usize,
 }
 
 /// Citations of steps that are not earlier are left out: they lead nowhere.
@@ -41,6 +43,7 @@ pub fn stats(record: &Record) -> Stats {
     }
     stats.depth = depths[count];
     stats.needed = needed(&cited);
+    stats.idle = count.saturating_sub(1 + stats.needed);
     stats
 }
 

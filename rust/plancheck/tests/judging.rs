@@ -58,12 +58,12 @@ fn sentence_at_7(number: usize, marked: bool) -> String {
     sentence(&answer, marked)
 }
 
-/// The writer's own refusal and the search's: no record meets them.
-const WITHOUT_RECORD: [usize; 2] = [25, 26];
-const LAST: usize = 26;
+/// The writer's own refusal, the search's and the trimmer's two: no judgement has them.
+const UNJUDGED: [usize; 4] = [25, 26, 27, 28];
+const LAST: usize = 28;
 
 fn sentences_differ(marked: bool) {
-    let numbers = (1..NUMBERS).chain(WITHOUT_RECORD);
+    let numbers = (1..NUMBERS).chain(UNJUDGED);
     let sentences = numbers.map(|number| {
         let sentence = sentence_at_7(number, marked);
         assert_eq!(

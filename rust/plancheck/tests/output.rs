@@ -10,20 +10,27 @@ use std::os::unix::fs::{symlink, FileTypeExt, MetadataExt, PermissionsExt};
 use std::process::{Command, Output};
 
 /// Every command that writes a file, but for the file that `-o` names.
-const WRITING: [&[&str]; 5] = [
+const WRITING: [&[&str]; 6] = [
     &["text", "sheet"],
     &["pack", "sheet.txt"],
     &["write", "sheet"],
+    &["trim", "sheet", "record"],
     &["plan", "sheet"],
     &["import", "sheet.wcnf"],
 ];
 
-/// A folder with something to read for each of them. The sheet has more bytes than the shells' smallest limits for a file.
+/// A folder with something to read for each of them. The sheet has more bytes than the shells' smallest limits for a file, and so
+/// has the record, trimmed too: its last step cites every clause, and the one before it is idle.
 fn filled(name: &str) -> Folder {
     let folder = Folder::new(name);
     let costs: String = (1..=300).map(|v| format!("cost {v} 1\n")).collect();
-    let text = format!("sheet\n{costs}clause 2\nclause 1\n");
+    let clauses = (1..=300).rev().map(|v| format!("clause {v}\n"));
+    let text = format!("sheet\n{costs}{}", clauses.collect::<String>());
+    let all: String = (1..=300).map(|number| format!(" {number}")).collect();
+    let steps = format!("cost : bound 0\nindependent{all} : bound 300\n");
+    let record = format!("record\nvariables 300\nclaim 300\nassign{all}\n{steps}");
     folder.write("sheet", pack(&text).unwrap().1);
+    folder.write("record", pack(&record).unwrap().1);
     folder.write("sheet.txt", text);
     folder.write("sheet.wcnf", "p wcnf 1 1 9\n9 1 0\n");
     folder
@@ -74,22 +81,31 @@ fn what_cannot_be_written_leaves_the_old_file() {
     }
 }
 
-/// Nothing of it can be written, or the first blocks alone.
-#[test]
-fn a_sheet_outlives_writing_over_itself() {
-    let folder = filled("outlives");
-    let (before, sheet) = (names(&folder), folder.read("sheet"));
+/// Runs a command that is to write over what it reads, where nothing of it can be written, or the first blocks alone.
+fn outlives(folder: &Folder, file: &str, command: &[&str]) {
+    let (before, bytes) = (names(folder), folder.read(file));
     for blocks in [0, 1] {
-        let failed = run_limited(&folder, blocks, &["write", "sheet", "-o", "sheet"]);
+        let failed = run_limited(folder, blocks, &to(command, file));
         let message = complained(&failed);
-        let start = "plancheck: sheet: cannot be written: ";
+        let start = format!("plancheck: {file}: cannot be written: ");
         assert!(
-            code(&failed) == 2 && message.starts_with(start),
+            code(&failed) == 2 && message.starts_with(&start),
             "{message}"
         );
-        assert_eq!(folder.read("sheet"), sheet, "{blocks} blocks");
-        assert_eq!(names(&folder), before, "{blocks} blocks");
+        assert_eq!(folder.read(file), bytes, "{blocks} blocks");
+        assert_eq!(names(folder), before, "{blocks} blocks");
     }
+}
+
+#[test]
+fn a_sheet_outlives_writing_over_itself() {
+    outlives(&filled("outlives"), "sheet", &["write", "sheet"]);
+}
+
+#[test]
+fn a_record_outlives_trimming_over_itself() {
+    let folder = filled("outlives-trim");
+    outlives(&folder, "record", &["trim", "sheet", "record"]);
 }
 
 /// Those of a new file would be others: they are what the user's mask leaves.

@@ -4,8 +4,8 @@ mod common;
 
 use common::{code, complained, printed, Folder};
 
-const COMMANDS: [&str; 9] = [
-    "judge", "explain", "stats", "text", "pack", "write", "search", "plan", "import",
+const COMMANDS: [&str; 10] = [
+    "judge", "explain", "stats", "text", "pack", "write", "trim", "search", "plan", "import",
 ];
 
 #[test]
@@ -67,7 +67,7 @@ fn wrong_use_shows_help_and_exits_with_2() {
 fn files_that_cannot_be_read_or_written_exit_with_2() {
     let folder = Folder::new("unreadable");
     folder.write("a.txt", "sheet\ncost 1 1\n");
-    let calls: [(&[&str], &str); 10] = [
+    let calls: [(&[&str], &str); 12] = [
         (&["judge", "a.txt", "gone"], "gone"),
         (&["explain", "gone", "a.txt"], "gone"),
         (&["text", "."], "."),
@@ -75,6 +75,8 @@ fn files_that_cannot_be_read_or_written_exit_with_2() {
         (&["pack", "a.txt", "-o", "gone/b"], "gone/b"),
         (&["pack", "a.txt", "-o", "."], "."),
         (&["write", "gone", "-o", "b"], "gone"),
+        (&["trim", "gone", "a.txt", "-o", "b"], "gone"),
+        (&["trim", "a.txt", "gone", "-o", "b"], "gone"),
         (&["search", "gone"], "gone"),
         (&["search", ".", "--budget", "3"], "."),
         (&["import", "gone", "-o", "b"], "gone"),

@@ -1,5 +1,5 @@
-//! The proved checker, called from Rust. Every answer here is the static library's: nothing is judged, sorted or searched on
-//! this side.
+//! The proved checker, called from Rust. Every answer here is the static library's: nothing is judged, sorted, searched or
+//! trimmed on this side.
 //!
 //! The declarations of the library's functions are not checked against its source, so they are few, and everything else goes
 //! through the safe functions below.
@@ -75,15 +75,26 @@ impl Answer {
     }
 }
 
-/// What came of writing a sheet.
+/// What came of writing a sheet, or of trimming a record.
 #[derive(Clone, Copy, Debug, PartialEq, Eq)]
 pub struct Written {
-    /// The refusal's number, 0 where the sheet was written.
+    /// The refusal's number, 0 where there is none.
     pub number: u64,
-    /// The clause that the refusal names, 0 where there is none.
+    /// The clause or the step that the refusal names, 0 where there is none.
     pub place: u64,
-    /// How many bytes were written, 0 where the sheet is refused.
+    /// How many bytes were written, 0 with a refusal.
     pub length: u64,
+}
+
+impl Written {
+    /// The answer by its three numbers.
+    fn of([number, place, length]: [u64; 3]) -> Written {
+        Written {
+            number,
+            place,
+            length,
+        }
+    }
 }
 
 /// What a search came to.
@@ -130,6 +141,17 @@ extern "C" {
         answer: *mut u64,
     );
     fn plan_search(sheet: *const u8, sheet_len: usize, budget: u64, answer: *mut u64);
+    fn plan_trim(
+        sheet: *const u8,
+        sheet_len: usize,
+        record: *const u8,
+        record_len: usize,
+        marks: *mut u8,
+        marks_len: usize,
+        out: *mut u8,
+        out_len: usize,
+        answer: *mut u64,
+    );
 }
 
 /// The judgement of a record, any bytes.
@@ -194,12 +216,7 @@ pub fn write_sheet(sheet: &[u8], out: &mut [u8]) -> Written {
             numbers.as_mut_ptr(),
         );
     }
-    let [number, place, length] = numbers;
-    Written {
-        number,
-        place,
-        length,
-    }
+    Written::of(numbers)
 }
 
 /// Searches a sheet of at most 64 variables for a plan of least cost. Each choice takes one of the budget; where there is none
@@ -219,12 +236,36 @@ pub fn search(sheet: &[u8], budget: u64) -> Found {
     }
 }
 
+/// Trims a record: keeps its last step and each step that a kept one cites.
+///
+/// The first bytes of `marks`, one for each step, are then 1 for a kept step and 0 for another, and `out` begins with the
+/// trimmed record; the bytes behind these stay. A refused record, and fewer marks than steps (27), leave both buffers; where
+/// `out` is too short (28), it stays, and the marks are written. A buffer as long as the record is always enough.
+pub fn trim(sheet: &[u8], record: &[u8], marks: &mut [u8], out: &mut [u8]) -> Written {
+    let mut numbers = [0u64; 3];
+    // SAFETY: both files may be read, both buffers written, and the array has three places; what is written overlaps nothing.
+    unsafe {
+        plan_trim(
+            sheet.as_ptr(),
+            sheet.len(),
+            record.as_ptr(),
+            record.len(),
+            marks.as_mut_ptr(),
+            marks.len(),
+            out.as_mut_ptr(),
+            out.len(),
+            numbers.as_mut_ptr(),
+        );
+    }
+    Written::of(numbers)
+}
+
 #[cfg(test)]
 mod tests {
     use super::*;
     use std::ptr::{null, null_mut};
 
-    /// Both calls that take a record, on files by pointer and length.
+    /// Judging and showing, on files by pointer and length.
     fn called(sheet: (*const u8, usize), record: (*const u8, usize)) -> ([u64; 6], [u64; 3]) {
         // Not what may be answered, so that every number is seen to be written.
         let (mut answer, mut part) = ([7; 6], [7; 3]);
@@ -274,6 +315,107 @@ mod tests {
         // It has no clauses, so that it stands in the one way already.
         assert_eq!(written(sheet, (out.as_mut_ptr(), out.len())), [0, 0, 8]);
         assert_eq!((&out[..8], &out[8..]), (&bytes[..], &[7; 2][..]));
+    }
+
+    /// The trimmer, on two files and two buffers by pointer and length.
+    fn trimmed(
+        sheet: (*const u8, usize),
+        record: (*const u8, usize),
+        marks: (*mut u8, usize),
+        out: (*mut u8, usize),
+    ) -> [u64; 3] {
+        let mut answer = [7; 3];
+        // SAFETY: as above, and the two buffers are not one.
+        unsafe {
+            plan_trim(
+                sheet.0,
+                sheet.1,
+                record.0,
+                record.1,
+                marks.0,
+                marks.1,
+                out.0,
+                out.1,
+                answer.as_mut_ptr(),
+            );
+        }
+        answer
+    }
+
+    #[test]
+    fn null_is_a_file_a_mark_buffer_or_an_output_of_no_bytes() {
+        let (no_file, no_buffer) = ((null(), 0), (null_mut(), 0));
+        let sheet = include_bytes!("../../../examples/B1/sheet");
+        let bytes = include_bytes!("../../../examples/B1/record");
+        let sheet = (sheet.as_ptr(), sheet.len());
+        let record = (bytes.as_ptr(), bytes.len());
+        let (mut first, mut second) = ([7; 2], [7; 35]);
+        let marks = (first.as_mut_ptr(), first.len());
+        let out = (second.as_mut_ptr(), second.len());
+        assert_eq!(trimmed(no_file, no_file, no_buffer, no_buffer), [2, 0, 0]);
+        assert_eq!(trimmed(sheet, no_file, no_buffer, no_buffer), [5, 0, 0]);
+        assert_eq!(trimmed(no_file, record, marks, out), [2, 0, 0]);
+        // 27 comes before 28, and leaves both buffers.
+        assert_eq!(trimmed(sheet, record, no_buffer, no_buffer), [27, 0, 0]);
+        assert_eq!(trimmed(sheet, record, no_buffer, out), [27, 0, 0]);
+        assert_eq!((first, second), ([7; 2], [7; 35]));
+        assert_eq!(trimmed(sheet, record, marks, no_buffer), [28, 0, 0]);
+        assert_eq!(first, [1, 7]);
+        // It has one step, and stays as it is.
+        assert_eq!(trimmed(sheet, record, marks, out), [0, 0, 33]);
+        assert_eq!((&second[..33], &second[33..]), (&bytes[..], &[7; 2][..]));
+    }
+
+    /// Every number is written, and no byte that is not the answer's: T1 has 7 steps, and what is left of it 153 bytes.
+    #[test]
+    fn a_trim_writes_three_numbers_and_what_they_tell_of() {
+        let sheet = include_bytes!("../../../examples/T1/sheet");
+        let record = include_bytes!("../../../examples/T1/record");
+        let wanted = include_bytes!("../../../examples/T1/trimmed");
+        let kept = [1, 0, 0, 1, 1, 1, 1];
+        let trimmed = |marks: usize, out: usize| {
+            let (mut marks, mut out) = (vec![7; marks], vec![7; out]);
+            let Written {
+                number,
+                place,
+                length,
+            } = trim(sheet, record, &mut marks, &mut out);
+            ([number, place, length], marks, out)
+        };
+        assert_eq!(
+            trimmed(6, 300),
+            ([27, 0, 0], [7; 6].to_vec(), [7; 300].to_vec())
+        );
+        assert_eq!(
+            trimmed(8, 152),
+            ([28, 0, 0], [&kept[..], &[7]].concat(), [7; 152].to_vec())
+        );
+        for (marks, out) in [(7, 153), (9, 153), (8, 300)] {
+            let more = [7; 300];
+            let written = (
+                [0, 0, 153],
+                [&kept[..], &more[7..marks]].concat(),
+                [&wanted[..], &more[153..out]].concat(),
+            );
+            assert_eq!(trimmed(marks, out), written);
+        }
+    }
+
+    /// A refusal has its place, and neither buffer is looked at before it.
+    #[test]
+    fn a_refused_record_is_not_trimmed() {
+        let sheet = include_bytes!("../../../examples/A7/sheet");
+        let record = include_bytes!("../../../examples/A7/record");
+        let refused = Written {
+            number: 18,
+            place: 5,
+            length: 0,
+        };
+        for room in [0, 5, 300] {
+            let (mut marks, mut out) = (vec![7; room], vec![7; room]);
+            assert_eq!(trim(sheet, record, &mut marks, &mut out), refused);
+            assert_eq!((marks, out), (vec![7; room], vec![7; room]));
+        }
     }
 
     /// The search, on a sheet by pointer and length.
@@ -326,6 +468,64 @@ mod tests {
         sheet
     }
 
+    /// The body of a step.
+    fn body(kind: u8, bound: u64, literals: &[u16], tail: &[u8]) -> Vec<u8> {
+        let count = literals.len() as u16;
+        let literals: Vec<u8> = literals
+            .iter()
+            .flat_map(|code| code.to_le_bytes())
+            .collect();
+        let head = [&[kind, 0][..], &count.to_le_bytes(), &bound.to_le_bytes()].concat();
+        [&head, &literals, tail].concat()
+    }
+
+    /// A step of kind 4.
+    fn resolution(bound: u64, literals: &[u16], cited: [u32; 2], pivot: u16) -> Vec<u8> {
+        let tail = [
+            &cited.map(u32::to_le_bytes).concat()[..],
+            &pivot.to_le_bytes(),
+        ]
+        .concat();
+        body(4, bound, literals, &tail)
+    }
+
+    /// A record for the sheet of A1: an idle step, and so many resolutions in a row that each rests on the one before it.
+    fn chain(links: u32) -> Vec<u8> {
+        let copy = |literals, clause: u32| body(1, NONE, literals, &clause.to_le_bytes());
+        let mut steps = vec![body(2, 0, &[], &[]), copy(&[2, 5], 2), copy(&[2, 4], 1)];
+        // Each holds its own pivot again, so that there is something to resolve for the next.
+        steps.extend((0..links).map(|link| resolution(NONE, &[2, 4], [3 + link, 2], 2)));
+        let last = 3 + links;
+        steps.push(resolution(NONE, &[2], [last, 2], 2));
+        steps.push(body(2, 3, &[3], &[]));
+        steps.push(resolution(3, &[], [last + 1, last + 2], 1));
+        let count = steps.len() as u32;
+        let mut record = [&3u64.to_le_bytes()[..], &count.to_le_bytes(), &[1]].concat();
+        let mut offset = record.len() as u32 + 8 * count;
+        for step in &steps {
+            let size = step.len() as u32;
+            record.extend([offset, size].map(u32::to_le_bytes).concat());
+            offset += size;
+        }
+        [record, steps.concat()].concat()
+    }
+
+    /// What is cited is looked up however far back it goes, and counted anew.
+    #[test]
+    fn a_chain_of_citations_is_kept_from_end_to_end() {
+        let sheet = include_bytes!("../../../examples/A1/sheet");
+        let record = chain(40_000);
+        let steps = judge(sheet, &record).step_count as usize;
+        let (mut marks, mut out) = (vec![7; steps], vec![7; record.len()]);
+        let length = trim(sheet, &record, &mut marks, &mut out).length as usize;
+        assert_eq!((steps, length), (40_006, record.len() - 20));
+        assert!(marks[0] == 0 && marks[1..].iter().all(|mark| *mark == 1));
+        assert_eq!(
+            judge(sheet, &out[..length]).line(),
+            "least 3 open 1 steps 40005"
+        );
+    }
+
     /// What comes of calls in a thread with so many KB of stack, of which some go to the thread itself.
     fn with_stack<T: Send + 'static>(size: usize, calls: fn() -> T) -> T {
         let thread = std::thread::Builder::new().stack_size(size * 1024);
@@ -340,14 +540,19 @@ mod tests {
             let record = include_bytes!("../../../examples/D/record");
             let most = most_clauses(1, &[]);
             let mut out = most.clone();
-            let length = write_sheet(&most, &mut out).length;
+            let written = write_sheet(&most, &mut out).length;
+            // Trimming goes back from step to step, and through all of these.
+            let (a1, long) = (include_bytes!("../../../examples/A1/sheet"), chain(10_000));
+            let (mut marks, mut left) = (vec![0; 10_006], long.clone());
+            let trimmed = trim(a1, &long, &mut marks, &mut left).length as usize;
             (
                 judge(sheet, record).cost,
                 show(sheet, record, 1).len(),
-                length,
+                written,
+                long.len() - trimmed,
             )
         };
-        assert_eq!(with_stack(88, calls), (11, 6, 16));
+        assert_eq!(with_stack(88, calls), (11, 6, 16, 20));
     }
 
     /// Less than 336 KB for a search, which goes as deep as there are variables: all of them are chosen, one below the other,

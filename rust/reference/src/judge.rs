@@ -38,7 +38,7 @@ pub fn judge(sheet: &[u8], record: &[u8]) -> Answer {
 
 /// The answer that is no refusal, an acceptance only if its gap is 0; or the first refusal. The order of the lines is
 /// the order of the refusals.
-fn unrefused(sheet: &[u8], record: &[u8]) -> Result<Answer, Refusal> {
+pub(crate) fn unrefused(sheet: &[u8], record: &[u8]) -> Result<Answer, Refusal> {
     check_size(sheet, record)?;
     let sheet = sheet::read(sheet)?;
     let record = record::read(record, sheet.variable_count())?;

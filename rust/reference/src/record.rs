@@ -9,6 +9,8 @@ use crate::NONE;
 pub(crate) struct Record<'a> {
     pub claim: u64,
     pub assignment: Assignment,
+    /// The assignment as it is stored.
+    pub assignment_bits: &'a [u8],
     pub steps: Bodies<'a>,
 }
 
@@ -36,6 +38,7 @@ pub(crate) fn read(file: &[u8], variable_count: u32) -> Result<Record<'_>, Refus
     Ok(Record {
         claim: head.claim,
         assignment: Assignment::from_bits(head.assignment_bits, variable_count),
+        assignment_bits: head.assignment_bits,
         steps,
     })
 }

@@ -39,3 +39,5 @@ pub(crate) const WEIGHTS: u32 = 23;
 pub(crate) const LINEAR_BOUND: u32 = 24;
 pub(crate) const SHORT_BUFFER: u32 = 25;
 pub(crate) const MANY_PADDLES: u32 = 26;
+pub(crate) const FEW_MARKS: u32 = 27;
+pub(crate) const SHORT_OUTPUT: u32 = 28;

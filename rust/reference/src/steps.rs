@@ -47,7 +47,7 @@ pub(crate) fn check(sheet: &Sheet, earlier: &[CostClause], body: &[u8]) -> Resul
 }
 
 /// The head of a body: the kind, a zero, the number of literals in 2 bytes and the bound in 8.
-const HEAD_SIZE: usize = 12;
+pub(crate) const HEAD_SIZE: usize = 12;
 
 /// The step, or `None` where its form is wrong (refusal 8).
 pub(crate) fn read(body: &[u8], variable_count: u32) -> Option<Step<'_>> {

@@ -7,15 +7,33 @@ use crate::refusal::{refuse, Refusal, SHORT_BUFFER};
 use crate::sheet::{self, Sheet, LOSS_SIZE, MARK};
 use std::collections::BTreeSet;
 
-/// The answer to a sheet and a buffer.
+/// The answer to a sheet and a buffer, or to a record that is trimmed.
 #[derive(Clone, Copy, Debug, PartialEq, Eq)]
 pub struct Written {
-    /// The refusal's number; 0 where the sheet was written.
+    /// The refusal's number; 0 where the file was written.
     pub number: u32,
-    /// The clause that the refusal names; 0 where the sheet was written and where there is none to name.
+    /// The clause or step that the refusal names; 0 where the file was written and where there is none to name.
     pub place: u64,
     /// How many bytes were written, from the buffer's first on; 0 with a refusal.
     pub length: u64,
+}
+
+impl Written {
+    /// The answer where this many bytes were written, or where the refusal was met.
+    pub(crate) fn of(outcome: Result<usize, Refusal>) -> Written {
+        match outcome {
+            Ok(length) => Written {
+                number: 0,
+                place: 0,
+                length: length as u64,
+            },
+            Err(refusal) => Written {
+                number: refusal.number,
+                place: refusal.place,
+                length: 0,
+            },
+        }
+    }
 }
 
 /// Writes the sheet with its clauses in order, each once, and without a mark whose loss is 0, to the start of the
@@ -23,34 +41,21 @@ pub struct Written {
 ///
 /// Clauses may get other numbers by this, so a record of the sheet need not be one of the written sheet.
 pub fn write_sheet(sheet: &[u8], out: &mut [u8]) -> Written {
-    match unrefused(sheet, out.len()) {
-        Ok(bytes) => {
-            out[..bytes.len()].copy_from_slice(&bytes);
-            Written {
-                number: 0,
-                place: 0,
-                length: bytes.len() as u64,
-            }
-        }
-        Err(refusal) => Written {
-            number: refusal.number,
-            place: refusal.place,
-            length: 0,
-        },
-    }
+    Written::of(unrefused(sheet, out))
 }
 
-/// The bytes for a buffer of this length, or the first refusal. The order of the lines is the order of the refusals.
-fn unrefused(sheet: &[u8], out_len: usize) -> Result<Vec<u8>, Refusal> {
+/// How many bytes were written, or the first refusal. The order of the lines is the order of the refusals.
+fn unrefused(sheet: &[u8], out: &mut [u8]) -> Result<usize, Refusal> {
     check_size(sheet, &[])?;
     let bytes = canonical(&sheet::read(sheet)?);
-    check_room(&bytes, out_len)?;
-    Ok(bytes)
+    check_room(&bytes, out)?;
+    out[..bytes.len()].copy_from_slice(&bytes);
+    Ok(bytes.len())
 }
 
 /// Refusal 25.
-fn check_room(bytes: &[u8], out_len: usize) -> Result<(), Refusal> {
-    if out_len < bytes.len() {
+fn check_room(bytes: &[u8], out: &[u8]) -> Result<(), Refusal> {
+    if out.len() < bytes.len() {
         return refuse(SHORT_BUFFER, 0);
     }
     Ok(())

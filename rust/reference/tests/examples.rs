@@ -20,7 +20,7 @@ fn every_example_gives_its_line() {
         judged += 1;
     }
     assert_eq!(
-        judged, 23,
-        "A1 to A8, B1, B2, C1 to C4, D, E, L1, L2, R1, R2, S1, W1 and W2"
+        judged, 25,
+        "A1 to A8, B1, B2, C1 to C4, D, E, L1, L2, R1, R2, S1, T1, T2, W1 and W2"
     );
 }

@@ -12,8 +12,8 @@ pub struct Example {
     pub line: String,
 }
 
-/// A1 to A8, B1, B2, C1 to C4, D and E of document 01, W1, W2, S1, R1, R2, L1 and L2.
-pub const COUNT: usize = 23;
+/// A1 to A8, B1, B2, C1 to C4, D and E of document 01, W1, W2, S1, R1, R2, L1, L2, T1 and T2.
+pub const COUNT: usize = 25;
 
 /// Every example; there are as many as there have to be.
 pub fn examples() -> [Example; COUNT] {

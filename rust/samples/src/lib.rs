@@ -10,6 +10,7 @@ pub mod outcome;
 pub mod random;
 pub mod searching;
 pub mod sheets;
+pub mod trimming;
 pub mod weights;
 pub mod widening;
 pub mod writing;

@@ -57,6 +57,13 @@ impl Tally {
         *self.0.entry(outcome).or_default() += 1;
     }
 
+    /// Adds all that another has met.
+    pub fn join(&mut self, other: &Tally) {
+        for (outcome, count) in &other.0 {
+            *self.0.entry(*outcome).or_default() += count;
+        }
+    }
+
     pub fn of(&self, outcome: Outcome) -> usize {
         self.0.get(&outcome).copied().unwrap_or(0)
     }

@@ -6,9 +6,9 @@ use mathlib.Core.Bool.{false, _&&_}
 use mathlib.Core.List.{List, [], _∷_, _++_, append-assoc}
 use mathlib.Core.Logic.{_≢_}
 use native.Mathlib.Omega.{arith}
-use lib.ListN.{length, getD, drop, replicate, length-append, length-replicate, List·getD-append}
+use lib.ListN.{length, getD, take, drop, replicate, length-append, length-replicate, List·getD-append}
 use lib.Dec.{leb}
-use lib.Seq.{getD-drop}
+use lib.Seq.{getD-drop, take-append-seam}
 use Rattle.judgement.specs.Meaning.{Assignment, positive, cost, Model, none}
 use Rattle.judgement.specs.Pairs.{body}
 use Rattle.judgement.specs.Sheet.{mostBytes, variables, clauses, problemOf}
@@ -66,6 +66,10 @@ module _ (c : ℕ) (bits : List ℕ) (bodies : List (List ℕ)) where
   record-bit v l h =
       let i : (v - 1) / 8 < length bits = omega arith in
       rw (← (getD-drop 12 it ((v - 1) / 8) 0), record-12, List·getD-append bits behind 0 ((v - 1) / 8) i)
+
+  -- all of them at once
+  pub record-bits : take (length bits) (drop 12 (recordOf c bits bodies)) ≡ bits
+  record-bits = rw record-12 (take-append-seam bits behind)
 
   pub record-length : length (recordOf c bits bodies) ≡ 12 + length bits + 8 * length bodies + length (joined bodies)
   unfolding recordOf

@@ -1,6 +1,7 @@
--- A table of pairs and its bodies, written one after the other: g gives the body for each entry of a list `order`.
+-- A table of pairs and its bodies: those that keep the pair rule fill their file; and such a table written one entry after the
+-- other, where g gives the body for each entry of a list `order`.
 -- Assumes nothing.
-use Prim.Native.Nat.{ℕ, _+_, _*_, _≤_, _<_}
+use Prim.Native.Nat.{ℕ, zero, suc, _+_, _-_, _*_, _≤_, _<_}
 use mathlib.Core.Path.{_≡_, refl, sym, ap, _∙_}
 use mathlib.Core.List.{List, [], _∷_, _++_, map, map-append, append-assoc, append-nil}
 use native.Mathlib.Omega.{arith}
@@ -8,11 +9,31 @@ use native.Mathlib.Numerals.{add-one}
 use native.Mathlib.Nat.{add-zero}
 use lib.ListN.{length, getD, take, drop, length-append, length-map, take-append-drop}
 use lib.Seq.{take-suc, take-all, length-take-le}
+use Rattle.judgement.specs.Scan.{sumOf}
+use Rattle.judgement.specs.Pairs.{pairOffset, pairLength}
+use Rattle.judgement.specs.Facts.{PairRule}
 use Rattle.judgement.specs.Writer.{bytesOf, pairsOf, joined, fileOf}
 use Rattle.judgement.specs.Buffer.{over, put}
 use Rattle.judgement.proofs.Laws.Buffer.{length-over, put-room, partFrom, partPut, length-from, put-next}
 use Rattle.judgement.proofs.Complete.Bytes.{length-bytes}
 use Rattle.judgement.proofs.Complete.Tables.{length-pairs}
+
+-- ---- where the pairs keep their rule, the bodies fill the file
+
+module _ (f : List ℕ) (at count : ℕ) (rule : PairRule f at count) where
+  -- a body ends where the lengths up to it say
+  ends-sum : (k : ℕ) → suc k ≤ count
+      → pairOffset f at (suc k) + pairLength f at (suc k) ≡ at + 8 * count + sumOf (pairLength f at) (suc k)
+  unfolding sumOf
+  ends-sum zero h = omega (arith, rule .first h)
+  ends-sum (suc k) h =
+      let e = rw add-one at (rule .later (suc k) (omega arith) h) in
+      omega (arith, e, ends-sum k (omega arith))
+
+pub lengths-fill : (f : List ℕ) (at count : ℕ) → PairRule f at count → at + 8 * count + sumOf (pairLength f at) count ≡ length f
+unfolding sumOf
+lengths-fill f at zero rule = omega (arith, rule .empty refl)
+lengths-fill f at (suc k) rule = sym (ends-sum f at (suc k) rule k (omega arith)) ∙ rule .last (omega arith)
 
 -- ---- one more body
 
@@ -21,11 +42,11 @@ unfolding joined
 joined-append [] m = refl
 joined-append (b ∷ l) m = rw (joined-append l m, append-assoc)
 
-joined-end : (l : List (List ℕ)) (b : List ℕ) → joined (l ++ (b ∷ [])) ≡ joined l ++ b
+pub joined-end : (l : List (List ℕ)) (b : List ℕ) → joined (l ++ (b ∷ [])) ≡ joined l ++ b
 unfolding joined
 joined-end l b = joined-append l (b ∷ []) ∙ rw append-nil
 
-pairs-end : (start : ℕ) (l : List (List ℕ)) (b : List ℕ)
+pub pairs-end : (start : ℕ) (l : List (List ℕ)) (b : List ℕ)
     → pairsOf start (l ++ (b ∷ [])) ≡ pairsOf start l ++ (bytesOf 4 (start + length (joined l)) ++ bytesOf 4 (length b))
 unfolding pairsOf joined
 pairs-end start [] b = rw (append-nil, add-zero)

@@ -27,10 +27,11 @@ pub(super) fn counted(args: &Args, out: &mut dyn Write) -> Outcome {
     let [sheet_path, record_path] = args.files()?;
     let read = files::valid_sheet(sheet_path, &sheet)?;
     let laid_out = files::laid_out(record_path, &sheet, &record)?;
+    let answer = proved::judge(&sheet, &record);
     let stats = stats::stats(&laid_out);
     let [copies, costs, independent, resolutions, weighted, unreadable] = stats.kinds;
     let mut lines = vec![
-        proved::judge(&sheet, &record).line(),
+        answer.line(),
         sheet_line(&read, sheet.len()),
         format!("record: {} bytes", record.len()),
         format!("steps: {} (copy {copies}, cost {costs}, independent {independent}, resolve {resolutions}, weighted {weighted})", laid_out.steps.count()),
@@ -38,6 +39,13 @@ pub(super) fn counted(args: &Args, out: &mut dyn Write) -> Outcome {
         format!("depth of the last step: {}", stats.depth),
         format!("steps that the last one rests on: {}", stats.needed),
     ];
+    // A refused record is not trimmed.
+    if answer.number == 0 && stats.idle > 0 {
+        let idle = stats.idle;
+        lines.push(format!(
+            "idle steps: {idle}; plancheck trim leaves them out"
+        ));
+    }
     if weighted > 0 {
         lines.push(format!("clauses with weights: {}", stats.entries));
     }

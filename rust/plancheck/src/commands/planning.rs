@@ -3,7 +3,7 @@
 use super::{at_line, code, print, Outcome};
 use crate::args::Args;
 use crate::failure::Failure;
-use crate::{files, import};
+use crate::{files, import, trim};
 use planner::search::{self, Bounds};
 use planner::{format, tree, Plan, Problem};
 use std::io::Write;
@@ -23,7 +23,8 @@ pub(super) fn planned(args: &Args, out: &mut dyn Write) -> Outcome {
     let sheet = files::valid_sheet(path, &bytes)?;
     let unread = || Failure::Content(format!("{}: byte 0: no problem here", path.display()));
     let problem = sheet.problem().ok_or_else(unread)?;
-    let record = plan(args, path, &problem)?.record();
+    // The planner leaves idle steps out by itself. That none is written is the proved trimmer's word all the same, and not its own.
+    let record = trim::without_idle_steps(&bytes, plan(args, path, &problem)?.record());
     files::write(output, &record)?;
     let answer = proved::judge(&bytes, &record);
     print(out, &format!("{}\n", answer.line()))?;

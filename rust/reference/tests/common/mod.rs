@@ -5,6 +5,7 @@
 
 pub mod derivation;
 pub mod searcher;
+pub mod trimmer;
 pub mod writer;
 
 use reference::Answer;

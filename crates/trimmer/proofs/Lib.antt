@@ -1,0 +1,15 @@
+pub mod Kept
+pub mod Chosen
+pub mod Renumbering
+pub mod Moving
+pub mod Trimmed
+pub mod Promised
+pub mod When
+pub mod Behind
+pub mod Marking
+pub mod Numbering
+pub mod Steps
+pub mod Parts
+pub mod Loops
+pub mod Whole
+pub mod Cases

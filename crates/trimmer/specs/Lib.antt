@@ -1,0 +1,3 @@
+pub mod Trim
+pub mod Promises
+pub mod Work
