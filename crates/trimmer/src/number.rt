@@ -51,8 +51,8 @@ pub(crate) fn write_samples(marks: &[u8], w: usize, room: usize, table: &mut [u8
     }
 }
 
-// Which sample is the last before step x. Where half of the steps are kept there is one for each, and a division costs more than
-// all the rest.
+// Which sample is the last before step x. Where half of the steps are kept there is one for each step, and no division is needed
+// to find it.
 fn sample_of(w: usize, x: usize) -> usize
     requires { ⌜ (1 ≤ w) × (1 ≤ x) ⌝ }
     ensures { λ r. ⌜ r ≡ (x - 1) / w ⌝ }
