@@ -17,18 +17,13 @@ use Rattle.judgement.specs.Integers.{sumOfℤ, belowZero}
 use Rattle.judgement.specs.Linear.{addend, addendSum}
 use Rattle.judgement.specs.Facts.{Among, LiteralList}
 use Rattle.judgement.proofs.Laws.Scan.{which, last-or}
-use Rattle.judgement.proofs.Laws.Integers.{equal-parts, sum-parts, minus-parts, less-parts, one-part, size-parts}
+use Rattle.judgement.proofs.Laws.Integers.{sumℤ-same, equal-parts, sum-parts, minus-parts, less-parts, one-part, size-parts}
 use Rattle.checker.specs.Weighing.{shift, moved}
 use native.Mathlib.Numerals.{add-one}
 use Rattle.checker.proofs.Marking.{heldTo, unheld}
 use Rattle.checker.proofs.Bits.{shift-size}
 
 -- ---- sums of integers
-
-sumℤ-same : (f g : ℕ → ℤ) (n : ℕ) → ((k : ℕ) → Among n k → f k ≡ g k) → sumOfℤ f n ≡ sumOfℤ g n
-unfolding sumOfℤ
-sumℤ-same f g zero h = refl
-sumℤ-same f g (suc n) h = rw (sumℤ-same f g n (λ k w. h k (w .0, omega (arith, w .1))), h (suc n) (omega arith, omega arith))
 
 swap-last : (a x b : ℤ) → a +ℤ x +ℤ b ≡ a +ℤ b +ℤ x
 swap-last a x b = +ℤ-assoc a x b ∙ rw (+ℤ-comm x b) (sym (+ℤ-assoc a b x))

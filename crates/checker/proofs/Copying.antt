@@ -17,9 +17,9 @@ use Rattle.judgement.specs.Number.{numberAt}
 use Rattle.judgement.specs.Literals.{count, code, sameLiterals, literalsFine}
 use Rattle.judgement.specs.declared.Finding.the-variants.{Fine, Fault}
 use Rattle.judgement.specs.Finding.{need, _then_}
-use Rattle.judgement.specs.Sheet.{variables, clauses, clausePairsAt, clause}
+use Rattle.judgement.specs.Sheet.{variables, clauses, clausePairsAt}
 use Rattle.judgement.specs.declared.Kind.the-variants.{Copy}
-use Rattle.judgement.specs.Step.{kindOf, literalCount, bound, literals, tail, cited, tailFine, formFine, stepForm, citesFine, citation}
+use Rattle.judgement.specs.Step.{kindOf, literalCount, bound, literals, tail, cited, citedClause, tailFine, formFine, stepForm, citesFine, citation}
 use Rattle.judgement.specs.Kinds.{copyFinding}
 use Rattle.judgement.specs.Demands.{IsBytes}
 use Rattle.judgement.specs.Facts.{Among, LiteralList, ValidSheet}
@@ -186,7 +186,7 @@ module _ (b : List ℕ) (size : length b ≡ 16 + 2 * literalCount b) where
 
 module _ (s b : List ℕ) where
   -- what refusal 12 looks at
-  pub copied-when : isCopied s b ≡ sameLiterals (literals b) (clause s (cited b 1)) && eqb (bound b) none
+  pub copied-when : isCopied s b ≡ sameLiterals (literals b) (citedClause s b 1) && eqb (bound b) none
   unfolding isCopied copyFinding
   copied-when = sym (fine-need _ 12 0)
 
@@ -218,7 +218,7 @@ module _ (s b : List ℕ) where
     module _ (size : length b ≡ 16 + 2 * literalCount b) where
       in-form : isCopied s b ≡ true → literalsFine (variables s) (literals b) ≡ true
       in-form p =
-          let C = clause s (cited b 1) in
+          let C = citedClause s b 1 in
           let same = and-l (sameLiterals (literals b) C) (eqb (bound b) none) (sym copied-when ∙ p) in
           list-fine (variables s) (literals b)
           (same-list (literals b) C (variables s) (whole-list b size) same (valid .lists (cited b 1) cited-among))

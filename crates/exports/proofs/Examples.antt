@@ -3,7 +3,8 @@
 use mathlib.Core.Path.{_≡_, refl}
 use mathlib.Core.Bool.{true, false}
 use mathlib.Core.List.{[], _∷_}
-use Rattle.judgement.specs.Computed.{within, refused}
+use Rattle.judgement.specs.Judgement.{refused}
+use Rattle.judgement.specs.Computed.{within}
 use Rattle.exports.specs.Numbers.{answerNumbers, partNumbers, writtenNumbers, foundNumbers}
 
 -- number, place, cost, open count, step count, gap

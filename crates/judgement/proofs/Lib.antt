@@ -3,5 +3,6 @@ pub mod Facts
 pub mod Order
 pub mod Sound
 pub mod Complete
+pub mod Longer
 pub mod Promised
 pub mod Cases

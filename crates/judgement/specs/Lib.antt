@@ -18,4 +18,5 @@ pub mod Order
 pub mod Facts
 pub mod Refusals
 pub mod Demands
+pub mod Longer
 pub mod Computed

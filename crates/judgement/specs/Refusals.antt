@@ -12,10 +12,10 @@ use lib.Dec.{eqb}
 use Rattle.judgement.specs.Meaning.{variableOf, isPositive, opposite, Includes}
 use Rattle.judgement.specs.Sheet.{clauses}
 use Rattle.judgement.specs.Record.{steps, step}
-use Rattle.judgement.specs.Step.{bound, literals, stated, tail, citedCount, divisor, entryCount, weight}
+use Rattle.judgement.specs.Step.{citedClause, bound, literals, stated, tail, citedCount, divisor, entryCount, weight}
 use Rattle.judgement.specs.Kinds.{independentCost}
 use Rattle.judgement.specs.Facts.{Among, In, Mentions, BeforeSteps, StepLayout, Inference}
-use Rattle.judgement.specs.Facts.{citedClause, OpenYet, PositiveYet, Free, Unsettled, Pivots, resolventOf, Weighted, BoundedByTotal}
+use Rattle.judgement.specs.Facts.{OpenYet, PositiveYet, Free, Unsettled, Pivots, resolventOf, Weighted, BoundedByTotal}
 
 -- what a refusal can be told of
 pub data Subject : Type 0 where

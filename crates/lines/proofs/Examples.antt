@@ -3,7 +3,8 @@
 use mathlib.Core.Path.{_≡_, refl}
 use mathlib.Core.List.{[], _∷_}
 use Rattle.judgement.specs.Meaning.{none}
-use Rattle.judgement.specs.Computed.{accepted, within, refused}
+use Rattle.judgement.specs.Judgement.{refused}
+use Rattle.judgement.specs.Computed.{accepted, within}
 use Rattle.lines.specs.Text.{codes}
 use Rattle.lines.specs.Lines.{decimalWithin, decimalOf, leastLine, noneLine, withinLine, refusedLine, lineOf}
 

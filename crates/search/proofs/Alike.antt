@@ -7,9 +7,10 @@ use mathlib.Core.Logic.{_⊎_, inl, inr}
 use native.Mathlib.Omega.{arith}
 use lib.Dec.{eqb, leb}
 use Rattle.judgement.specs.Scan.{allOf, anyOf}
-use Rattle.judgement.specs.Meaning.{positive, negative, variableOf, Assignment, Literals, Problem, costOfTrue, cost}
-use Rattle.judgement.specs.Facts.{Among}
-use Rattle.judgement.proofs.Laws.Scan.{which, sum-same}
+use Rattle.judgement.specs.Meaning.{positive, negative, variableOf, Literals, Problem, cost}
+use Rattle.judgement.specs.Facts.{Among, Alike}
+use Rattle.judgement.proofs.Laws.Scan.{which}
+use Rattle.judgement.proofs.Laws.Cost.{same-cost}
 use Rattle.search.specs.declared.Node.{Node}
 use Rattle.search.specs.declared.Progress.{Progress}
 use Rattle.search.specs.Node.{has, unsettled, settledFalse, settle, root, nextVariable, lastCode, falsified, forces, forcedBy}
@@ -17,11 +18,9 @@ use Rattle.search.specs.Search.{forced, forcing, afterForcing, dead, lea
 use Rattle.search.proofs.First.{first-same, lowest-same}
 use Rattle.search.proofs.Steps.{forcing-none, forcing-some, explore-visit, visit-left, visit-plan, visit-both, branches-are, branch-stop, branch-below}
 
-pub record Alike (P Q : Problem) : Type 0 where
-  pub variables : P .variables ≡ Q .variables
-  pub loss : P .loss ≡ Q .loss
+pub record AllAlike (P Q : Problem) : Type 0 where
+  pub costs : Alike P Q
   pub clauses : P .clauses ≡ Q .clauses
-  pub costs : (v : ℕ) → Among (Q .variables) v → P .costOf v ≡ Q .costOf v
   pub clause : (k : ℕ) → Among (Q .clauses) k → (c : ℕ) → Among (lastCode (Q .variables)) c → P .clause k c ≡ Q .clause k c
 
 -- ---- tests that agree
@@ -55,16 +54,11 @@ module _ (n : ℕ) (p : Node) (C D : Literals) (same : (c : ℕ) → Among (last
 
 -- ---- one node
 
-module _ (P Q : Problem) (alike : Alike P Q) where
-  same-cost : (α : Assignment) → cost P α ≡ cost Q α
-  unfolding cost costOfTrue
-  same-cost α =
-      rw (alike .variables, alike .loss) (ap (λ (k : ℕ). Q .loss + k) (sum-same _ _ (Q .variables) (λ v w. rw (alike .costs v w))))
-
+module _ (P Q : Problem) (alike : AllAlike P Q) where
   same-forced : (p : Node) → forced P p ≡ forced Q p
   unfolding forced
   same-forced p =
-      rw (alike .variables, alike .clauses)
+      rw (alike .costs .same-variables, alike .clauses)
       (first-same _ _ (Q .clauses) (λ k w. same-forced-by (Q .variables) p (P .clause k) (Q .clause k) (alike .clause k w)))
 
   same-forcing : (steps : ℕ) (p : Node) → forcing P steps p ≡ forcing Q steps p
@@ -82,25 +76,25 @@ module _ (P Q : Problem) (alike : Alike P Q) where
           forcing-some P p steps (f ∙ e) ∙ rw (same-forced p) (ih (settle p (forced Q p))) ∙ sym (forcing-some Q p steps e)
 
   same-after : (p : Node) → afterForcing P p ≡ afterForcing Q p
-  same-after p = same-forcing (P .variables) p ∙ ap (λ (n : ℕ). forcing Q n p) (alike .variables)
+  same-after p = same-forcing (P .variables) p ∙ ap (λ (n : ℕ). forcing Q n p) (alike .costs .same-variables)
 
   same-dead : (p : Node) → dead P p ≡ dead Q p
   unfolding dead
   same-dead p =
-      rw (alike .variables, alike .clauses)
+      rw (alike .costs .same-variables, alike .clauses)
       (any-same _ _ (Q .clauses) (λ k w. same-falsified (Q .variables) p (P .clause k) (Q .clause k) (alike .clause k w)))
 
   same-leaves : (p : Node) (S : Progress) → leaves P p S ≡ leaves Q p S
   unfolding leaves
-  same-leaves p S = ap₂ _||_ (same-dead p) (ap (leb (S .cost)) (same-cost (has (p .trues))))
+  same-leaves p S = ap₂ _||_ (same-dead p) (ap (leb (S .cost)) (same-cost P Q (alike .costs) (has (p .trues))))
 
   same-next : (p : Node) → nextVariable P p ≡ nextVariable Q p
   unfolding nextVariable
-  same-next p = rw (alike .variables)
+  same-next p = rw (alike .costs .same-variables)
 
   same-improve : (p : Node) (S : Progress) → improve P p S ≡ improve Q p S
   unfolding improve
-  same-improve p S = rw (same-cost (has (p .trues)))
+  same-improve p S = rw (same-cost P Q (alike .costs) (has (p .trues)))
 
   -- ---- and what lies below it
 
@@ -108,7 +102,7 @@ module _ (P Q : Problem) (alike : Alike P Q) where
     same-branch : (p : Node) (c : ℕ) (S : Progress) → branch P f p c S ≡ branch Q g p c S
     same-branch p c S = elim (which (eqb (S .left) 0)) [
       | inl e ↦
-          branch-stop P p S f c e ∙ ap (λ (k : ℕ). stop k S) (same-cost (has (p .trues))) ∙ sym (branch-stop Q p S g c e)
+          branch-stop P p S f c e ∙ ap (λ (k : ℕ). stop k S) (same-cost P Q (alike .costs) (has (p .trues))) ∙ sym (branch-stop Q p S g c e)
       | inr e ↦ branch-below P p S f c e ∙ below (settle p c) (spend S) ∙ sym (branch-below Q p S g c e)
     ]
 
@@ -149,4 +143,4 @@ module _ (P Q : Problem) (alike : Alike P Q) where
   unfolding searched
   same-search budget =
       same-explore (P .variables + 1) root (begin budget)
-      ∙ ap (λ (n : ℕ). explore Q (n + 1) root (begin budget)) (alike .variables)
+      ∙ ap (λ (n : ℕ). explore Q (n + 1) root (begin budget)) (alike .costs .same-variables)

@@ -18,7 +18,7 @@ use Rattle.judgement.proofs.Laws.Membership.{holds-in}
 use Rattle.search.specs.declared.Size.{Size}
 use Rattle.search.specs.Tables.{clauseOf, positives, negatives, tableProblem, inRow, FineClause, FineTables, Small, Costed, Masked, Rowed}
 use Rattle.search.proofs.Promised.{sheet-bounded}
-use Rattle.search.proofs.Alike.{Alike}
+use Rattle.search.proofs.Alike.{AllAlike}
 
 -- ---- a list of literals
 
@@ -98,11 +98,9 @@ module _ (s : List ℕ) (valid : ValidSheet s) (few : variables s ≤ 64) (costs
       inside : (c k : ℕ) → Among 64 (variableOf c) → Among 4096 k → inRow rows c k ≡ true → k ≤ clauses s
       inside c k u w t = leb-true k (clauses s) (and-l (leb k (clauses s)) (holds (clause s k) c) (sym (rowed c k u w) ∙ t))
 
-  pub tables-alike : Costed s costs (variables s) → Alike (tableProblem size costs masks) (problemOf s)
+  pub tables-alike : Costed s costs (variables s) → AllAlike (tableProblem size costs masks) (problemOf s)
   tables-alike costed = rw is-size (record {
-    variables = refl;
-    loss = refl;
+    costs = record { same-variables = refl; same-costs = costed; same-loss = refl };
     clauses = refl;
-    costs = costed;
     clause = λ k w c u. same-clause s masks masked k w c;
   })

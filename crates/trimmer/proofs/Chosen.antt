@@ -15,12 +15,6 @@ use Rattle.judgement.proofs.Laws.Scan.{which, last-or, count-join}
 use Rattle.judgement.proofs.Laws.Table.{joined-end}
 use Rattle.trimmer.specs.Trim.{chosen}
 
--- the body of the entry at a place
-pub map-at : (g : ℕ → List ℕ) (l : List ℕ) (i : ℕ) → i < length l → getD (map g l) i [] ≡ g (getD l i 0)
-map-at g [] i h = absurd (omega arith)
-map-at g (k ∷ l) zero h = refl
-map-at g (k ∷ l) (suc i) h = map-at g l i (omega arith)
-
 module _ (f : ℕ → Bool) where
   -- ---- how many
 

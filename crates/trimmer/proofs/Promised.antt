@@ -26,22 +26,17 @@ use Rattle.judgement.specs.Demands.{IsBytes}
 use Rattle.judgement.proofs.Laws.Scan.{which}
 use Rattle.judgement.proofs.Laws.Stored.{number-below, part-bytes}
 use Rattle.judgement.proofs.Laws.Buffer.{over-again}
-use Rattle.judgement.proofs.Laws.Findings.{IsFine, fine-is, then-of, then-r}
+use Rattle.judgement.proofs.Laws.Findings.{IsFine, fine-is}
 use Rattle.judgement.proofs.Complete.Bytes.{nil-bytes, bytes-are-bytes, append-bytes}
 use Rattle.judgement.proofs.Complete.Written.{pairs-bytes}
 use Rattle.judgement.proofs.Facts.Close.{closes-fine, cost-fine, close-facts}
-use Rattle.judgement.proofs.Facts.Accepted.{front, finding-is, facts-front, passes-before}
-use Rattle.judgement.proofs.Order.Shape.{passes-fine}
+use Rattle.judgement.proofs.Facts.Accepted.{facts-fine, passed-fine, passes-close, passes-before}
 use Rattle.trimmer.specs.Trim.{cites, kept, citing, newNumber, renumbered, newBody, trimmed, marksOf, fewMarks, shortOutput, markFinding, trimFinding, trimming, outputLeft}
 use Rattle.trimmer.specs.Promises.{LeastClosed, Renumbered, withSteps, Trimming}
 use Rattle.trimmer.proofs.Kept.{least-only}
 use Rattle.trimmer.proofs.Chosen.{count-rises, count-from}
 use Rattle.trimmer.proofs.Moving.{cites-when, same-body}
 use Rattle.trimmer.proofs.Trimmed.{kept-set, new-alike, trimmed-shorter, trimmed-steps, number-among, moved, new-citations, trimmed-last, agree, trimmed-claim, trimmed-passes, trimmed-count, every-kept, trimmed-again}
-
--- where the judgement passes, nothing is found
-pub passed-fine : (s r : List ℕ) → passes (judgement s r) ≡ true → finding s r ≡ Fine
-passed-fine s r ok = fine-is (finding s r) (passes-fine s r ok)
 
 -- ---- it is a file
 
@@ -106,15 +101,14 @@ module _ (s r : List ℕ) (bytes : IsBytes r) (ok : passes (judgement s r) ≡ t
   still-closes : IsFine (close s q)
   still-closes =
       let last = trimmed-last s r before in
-      elim (close-facts s r (then-r (front s r) (close s r) (rw (finding-is s r) at (passes-fine s r ok)))) [
+      elim (close-facts s r (passes-close s r ok)) [
         | inl h ↦ closes-fine s q (record { empty = last .count-is ∙ h .empty; reaches = rw (last .bound-is, claim-is) (h .reaches) })
         | inr h ↦ cost-fine s q (last .count-is ∙ h .empty) (λ z. h .some (sym claim-is ∙ z))
       ]
 
   still-fine : finding s q ≡ Fine
   still-fine =
-      fine-is (finding s q)
-      (rw (finding-is s q) (then-of (front s q) (close s q) (facts-front s q (trimmed-passes s r before small)) still-closes))
+      fine-is (finding s q) (facts-fine s q (trimmed-passes s r before small) still-closes)
 
   judged : judgement s q ≡ withSteps total (judgement s r)
   unfolding judgement

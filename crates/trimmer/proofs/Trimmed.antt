@@ -19,13 +19,13 @@ use Rattle.judgement.specs.Step.{kindOf, cited}
 use Rattle.judgement.specs.Writer.{joined}
 use Rattle.judgement.specs.Facts.{Among, PairRule, ValidSheet, RecordLayout, StepLayout, Inference, BeforeClose}
 use Rattle.judgement.proofs.Laws.Scan.{which, and-i, and-l, and-r, sum-same, sum-most, count-same, length-list, list-at}
-use Rattle.judgement.proofs.Laws.Table.{lengths-fill}
+use Rattle.judgement.proofs.Laws.Table.{map-at, lengths-fill}
 use Rattle.judgement.proofs.Complete.Written.{record-claim, record-steps, record-bit, record-bits, record-length, record-body, record-pairs}
 use Rattle.judgement.proofs.Complete.Least.{Agree, model-local, cost-local}
 use Rattle.trimmer.specs.Trim.{cites, kept, keptSteps, newNumber, newBody, keptBodies, assignmentBytes, trimmed}
 use Rattle.trimmer.specs.Promises.{LeastClosed}
 use Rattle.trimmer.proofs.Kept.{kept-closed-least}
-use Rattle.trimmer.proofs.Chosen.{map-at, count-at-most, count-rises, count-grows, count-all, count-from, length-chosen, chosen-at, chosen-all, chosen-size}
+use Rattle.trimmer.proofs.Chosen.{count-at-most, count-rises, count-grows, count-all, count-from, length-chosen, chosen-at, chosen-all, chosen-size}
 use Rattle.trimmer.proofs.Renumbering.{Alike, renumbered-alike, layout-alike}
 use Rattle.trimmer.proofs.Moving.{cites-earlier, whole-resolution, Moved, moved-alike, Stands, cites-new, inference-moved, cites-moved, moved-again}
 

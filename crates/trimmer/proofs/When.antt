@@ -23,9 +23,9 @@ use Rattle.judgement.proofs.Laws.Scan.{which, clash, length-list, list-at}
 use Rattle.judgement.proofs.Laws.Buffer.{length-over}
 use Rattle.judgement.proofs.Order.Shape.{numbered, shape}
 use Rattle.judgement.proofs.Order.WhichFault.{answer-fault}
+use Rattle.judgement.proofs.Facts.Accepted.{passed-fine}
 use Rattle.trimmer.specs.Trim.{kept, trimmed, marksOf, fewMarks, shortOutput, markFinding, trimFinding, trimming, marksLeft, outputLeft}
 use Rattle.trimmer.specs.Promises.{TrimmedWhen}
-use Rattle.trimmer.proofs.Promised.{passed-fine}
 
 -- ---- the judgement's own refusals
 

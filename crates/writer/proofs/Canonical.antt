@@ -2,26 +2,26 @@
 -- Assumes nothing.
 use Prim.Native.Nat.{ℕ, zero, suc, _+_, _-_, _*_, _≤_, _<_}
 use mathlib.Core.Path.{_≡_, refl, sym, ap, _∙_}
-use mathlib.Core.Bool.{cond}
 use mathlib.Core.List.{List, [], _∷_, _++_, map}
 use mathlib.Core.Logic.{_↔_, inl, inr}
 use native.Mathlib.Omega.{arith}
 use borrow.Author.Tests.{le-leb}
 use lib.ListN.{length, getD, drop, length-append, length-take, length-map, List·getD-map}
 use Rattle.judgement.specs.Scan.{sumOf, listOf}
-use Rattle.judgement.specs.Meaning.{Assignment, Satisfies, Model, costOfTrue, cost, Least, Breaks}
+use Rattle.judgement.specs.Meaning.{Problem, Assignment, Model, Least, Breaks}
 use Rattle.judgement.specs.Pairs.{pairOffset, pairLength, body}
-use Rattle.judgement.specs.Literals.{count, code, codesIn, holds}
+use Rattle.judgement.specs.Literals.{count, code, codesIn}
 use Rattle.judgement.specs.declared.Finding.the-variants.{Fine}
 use Rattle.judgement.specs.Sheet.{variables, clauses, lossAt, clausePairsAt, costOf, loss, clause, problemOf, aloneFinding}
-use Rattle.judgement.specs.Writer.{bytesOf, numbersOf, pairsOf, joined, fileOf, markOf, lossOf, sheetOf}
-use Rattle.judgement.specs.Facts.{Among, OneOf, In, LiteralList, ValidSheet}
+use Rattle.judgement.specs.Writer.{numbersOf, joined, lossOf, sheetOf}
+use Rattle.judgement.specs.Facts.{Among, OneOf, SameMembers, LiteralList, ValidSheet, Alike}
 use Rattle.judgement.specs.Demands.{IsBytes}
-use Rattle.judgement.proofs.Laws.Scan.{sum-same, sum-most, length-list, list-at, list-same}
+use Rattle.judgement.proofs.Laws.Scan.{sum-most, length-list, list-at, list-same}
 use Rattle.judgement.proofs.Laws.Stored.{number-below}
-use Rattle.judgement.proofs.Laws.Cost.{loss-below}
+use Rattle.judgement.proofs.Laws.Cost.{loss-below, same-cost}
 use Rattle.judgement.proofs.Laws.Members.{one-at}
-use Rattle.judgement.proofs.Laws.Membership.{holds-in, in-holds}
+use Rattle.judgement.proofs.Laws.Membership.{members-sym, members-trans}
+use Rattle.judgement.proofs.Laws.Models.{same-satisfied}
 use Rattle.judgement.proofs.Facts.Copy.{members-same}
 use Rattle.judgement.proofs.Complete.Typed.{Ascending}
 use Rattle.judgement.proofs.Complete.Codes.{codes-ascending}
@@ -29,8 +29,7 @@ use Rattle.judgement.proofs.Laws.Findings.{fine-is}
 use Rattle.judgement.proofs.Laws.Buffer.{over-again}
 use Rattle.judgement.proofs.Laws.Table.{lengths-fill}
 use Rattle.judgement.proofs.Facts.Layouts.{valid-alone}
-use Rattle.judgement.proofs.Complete.Bytes.{length-bytes, length-numbers, nil-bytes, bytes-are-bytes, append-bytes, numbers-are-bytes}
-use Rattle.judgement.proofs.Complete.Written.{pairs-bytes}
+use Rattle.judgement.proofs.Complete.Bytes.{length-bytes, length-numbers, nil-bytes, append-bytes, numbers-are-bytes}
 use Rattle.judgement.proofs.Complete.Stored.{codes-back, in-codes, in-member, ascending-fits, ascending-list}
 use Rattle.writer.specs.declared.Comparison.{Comparison}
 use Rattle.writer.specs.declared.Comparison.the-variants.{Before, Same, After}
@@ -40,11 +39,11 @@ use Rattle.writer.specs.Canonical.{ordered, canonical, writeFinding, sho
 use Rattle.writer.specs.Promises.{ClausesWithin, SameProblem, NoIdleMark, OneWay}
 use Rattle.writer.proofs.Order.{sorted-rises, sorted-has, sorted-from, in-order, in-order-same}
 use Rattle.writer.proofs.Only.{in-place}
-use Rattle.writer.proofs.SheetBack.{loss-or, headOf, sizeOf, length-sheet, back-variables, back-mark, back-clauses, back-cost, back-loss, back-clause, back-valid}
+use Rattle.writer.proofs.SheetBack.{loss-or, sizeOf, length-sheet, back-variables, back-mark, back-clauses, back-cost, back-loss, back-clause, back-valid, sheet-bytes}
 use Rattle.writer.proofs.Raw.{lossy-marked}
 
 -- stored lists with the same literals have the same codes
-codes-same : (n : ℕ) (part other : List ℕ) → LiteralList n part → LiteralList n other → ((c : ℕ) → In part c ↔ In other c)
+codes-same : (n : ℕ) (part other : List ℕ) → LiteralList n part → LiteralList n other → SameMembers part other
     → codesIn part ≡ codesIn other
 codes-same n part other p q same =
     let (long, each) = members-same n part other p q same in
@@ -241,8 +240,7 @@ module _ (s : List ℕ) (valid : ValidSheet s) where
   canonical-mark bytes = rw (canonical-loss bytes, is-written) (back-mark (loss s) costs bodies n-fits m-top size-top)
 
   -- the literals of a clause are those of its list, written
-  same-literals : (k : ℕ) → Among (clauses s) k → (b : List ℕ) → clauseCodes s k ≡ b → (c : ℕ)
-      → In (clause s k) c ↔ In (numbersOf 2 b) c
+  same-literals : (k : ℕ) → Among (clauses s) k → (b : List ℕ) → clauseCodes s k ≡ b → SameMembers (clause s k) (numbersOf 2 b)
   same-literals k w b e c =
       let f = ascending-fits (variables s) b (valid .n .1) (rw e at (clause-ascends k w)) in
       let p = rw e at (in-codes (clause s k) c) in
@@ -274,9 +272,11 @@ module _ (s : List ℕ) (valid : ValidSheet s) where
   same-canonical : IsBytes s → SameProblem s (canonical s)
   same-canonical bytes =
       record {
-        same-variables = sym canonical-variables;
-        same-costs = λ v w. sym (canonical-cost bytes v w);
-        same-loss = sym (canonical-loss bytes);
+        alike = record {
+          same-variables = sym canonical-variables;
+          same-costs = λ v w. sym (canonical-cost bytes v w);
+          same-loss = sym (canonical-loss bytes);
+        };
         there = clauses-there;
         back = clauses-back;
       }
@@ -295,35 +295,42 @@ within-codes s t p q n h k w =
 canonical-same : (s t : List ℕ) → ValidSheet s → ValidSheet t → SameProblem s t → canonical s ≡ canonical t
 unfolding canonical
 canonical-same s t p q h =
-    let n = h .same-variables in
+    let n = h .alike .same-variables in
     let c : listOf (costOf s) (variables s) ≡ listOf (costOf t) (variables t) =
-    list-same (costOf s) (costOf t) (variables s) (h .same-costs) ∙ ap (listOf (costOf t)) n in
+    list-same (costOf s) (costOf t) (variables s) (h .alike .same-costs) ∙ ap (listOf (costOf t)) n in
     let l = in-order-same s t (ordered s) (ordered t) (in-order s) (in-order t)
     (within-codes s t p q n (h .there)) (within-codes t s q p (sym n) (h .back)) in
-    rw (h .same-loss, c, l)
+    rw (h .alike .same-loss, c, l)
 
-same-sym : (s t : List ℕ) → SameProblem s t → SameProblem t s
-same-sym s t h =
+alike-sym : (P Q : Problem) → Alike P Q → Alike Q P
+alike-sym P Q h =
     record {
       same-variables = sym (h .same-variables);
       same-costs = λ v w. sym (h .same-costs v (rw (h .same-variables) w));
       same-loss = sym (h .same-loss);
-      there = h .back;
-      back = h .there;
     }
+
+same-sym : (s t : List ℕ) → SameProblem s t → SameProblem t s
+same-sym s t h = record { alike = alike-sym (problemOf s) (problemOf t) (h .alike); there = h .back; back = h .there }
 
 within-trans : (s t u : List ℕ) → ClausesWithin s t → ClausesWithin t u → ClausesWithin s u
 within-trans s t u p q k w =
     let (j, v, e) = p k w in
     let (i, x, d) = q j v in
-    (i, x, λ c. (λ h. d c .0 (e c .0 h), λ h. e c .1 (d c .1 h)))
+    (i, x, members-trans (clause s k) (clause t j) (clause u i) e d)
 
-same-trans : (s t u : List ℕ) → SameProblem s t → SameProblem t u → SameProblem s u
-same-trans s t u p q =
+alike-trans : (P Q R : Problem) → Alike P Q → Alike Q R → Alike P R
+alike-trans P Q R p q =
     record {
       same-variables = p .same-variables ∙ q .same-variables;
       same-costs = λ v w. p .same-costs v w ∙ q .same-costs v (rw (p .same-variables) at w);
       same-loss = p .same-loss ∙ q .same-loss;
+    }
+
+same-trans : (s t u : List ℕ) → SameProblem s t → SameProblem t u → SameProblem s u
+same-trans s t u p q =
+    record {
+      alike = alike-trans (problemOf s) (problemOf t) (problemOf u) (p .alike) (q .alike);
       there = within-trans s t u (p .there) (q .there);
       back = within-trans u t s (q .back) (p .back);
     }
@@ -343,22 +350,10 @@ canonical-again s p b =
 
 -- ---- the same problem: the same models, at the same cost
 
-same-satisfied : (α : Assignment) (part other : List ℕ) → ((c : ℕ) → In part c ↔ In other c)
-    → Satisfies α (holds part) → Satisfies α (holds other)
-same-satisfied α part other e (c, m, t) = (c, in-holds other c (e c .0 (holds-in part c m)), t)
-
 same-model : (s t : List ℕ) → SameProblem s t → (α : Assignment) → Model (problemOf s) α → Model (problemOf t) α
 same-model s t h α m k l u =
     let (j, w, e) = h .back k (l, u) in
-    same-satisfied α (clause s j) (clause t k) (λ c. (e c .1, e c .0)) (m j (w .0) (w .1))
-
-same-cost : (s t : List ℕ) → SameProblem s t → (α : Assignment) → cost (problemOf s) α ≡ cost (problemOf t) α
-unfolding costOfTrue cost
-same-cost s t h α =
-    let paid =
-    sum-same (λ v. cond (α v) (costOf s v) 0) (λ v. cond (α v) (costOf t v) 0) (variables s) (λ v w. rw (h .same-costs v w))
-    ∙ ap (sumOf (λ v. cond (α v) (costOf t v) 0)) (h .same-variables) in
-    rw (h .same-loss, paid)
+    same-satisfied α (clause s j) (clause t k) (members-sym (clause t k) (clause s j) e) (m j (w .0) (w .1))
 
 same-models : (s t : List ℕ) → SameProblem s t → (α : Assignment) → Model (problemOf s) α ↔ Model (problemOf t) α
 same-models s t h α = (same-model s t h α, same-model t s (same-sym s t h) α)
@@ -367,15 +362,15 @@ same-least : (s t : List ℕ) → SameProblem s t → (L : ℕ) → Least (probl
 same-least s t h L l =
     let (α, m, e) = l .reached in
     record {
-      reached = (α, same-model s t h α m, sym (same-cost s t h α) ∙ e);
-      below = λ β n. rw (same-cost s t h β) at (l .below β (same-model t s (same-sym s t h) β n));
+      reached = (α, same-model s t h α m, sym (same-cost (problemOf s) (problemOf t) (h .alike) α) ∙ e);
+      below = λ β n. rw (same-cost (problemOf s) (problemOf t) (h .alike) β) at (l .below β (same-model t s (same-sym s t h) β n));
     }
 
 -- an assignment breaks a clause of the one that has the literals of the clause that it breaks of the other
 same-breaks : (s t : List ℕ) → SameProblem s t → (α : Assignment) → Breaks (problemOf s) α → Breaks (problemOf t) α
 same-breaks s t h α (k, l, u, b) =
     let (j, w, e) = h .there k (l, u) in
-    (j, w .0, w .1, λ p. b (same-satisfied α (clause t j) (clause s k) (λ c. (e c .1, e c .0)) p))
+    (j, w .0, w .1, λ p. b (same-satisfied α (clause t j) (clause s k) (members-sym (clause s k) (clause t j) e) p))
 
 -- ---- writing it again
 
@@ -403,42 +398,9 @@ unfolding joined
 joined-bytes [] = nil-bytes
 joined-bytes (b ∷ l) = append-bytes (numbersOf 2 b) (joined (map (numbersOf 2) l)) (numbers-are-bytes 2 b) (joined-bytes l)
 
-loss-bytes : (lost : ℕ) → IsBytes (lossOf lost)
-loss-bytes lost = elim (loss-or lost) [
-  | inl o ↦ rw (o .bytes-are) nil-bytes
-  | inr o ↦ rw (o .bytes-are) (bytes-are-bytes 4 lost)
-]
-
 canonical-bytes : (s : List ℕ) → IsBytes (canonical s)
-unfolding canonical sheetOf fileOf
-canonical-bytes s =
-    append-bytes (headOf lost costs m ++ pairs) (joined bodies) (append-bytes (headOf lost costs m) pairs head (pairs-bytes _ bodies)) (joined-bytes (ordered s))
-  where
-    lost : ℕ
-    lost = loss s
-
-    costs : List ℕ
-    costs = listOf (costOf s) (variables s)
-
-    bodies : List (List ℕ)
-    bodies = map (numbersOf 2) (ordered s)
-
-    m : ℕ
-    m = length bodies
-
-    field : ℕ
-    field = markOf lost + length costs
-
-    pairs : List ℕ
-    pairs = pairsOf (length (headOf lost costs m) + 8 * m) bodies
-
-    head : IsBytes (headOf lost costs m)
-    head =
-        append-bytes (bytesOf 2 field ++ bytesOf 2 m ++ numbersOf 4 costs) (lossOf lost)
-        (append-bytes (bytesOf 2 field ++ bytesOf 2 m) (numbersOf 4 costs)
-        (append-bytes (bytesOf 2 field) (bytesOf 2 m) (bytes-are-bytes 2 field) (bytes-are-bytes 2 m))
-        (numbers-are-bytes 4 costs))
-        (loss-bytes lost)
+unfolding canonical
+canonical-bytes s = sheet-bytes (loss s) (listOf (costOf s) (variables s)) (map (numbersOf 2) (ordered s)) (joined-bytes (ordered s))
 
 pub one-way : (s : List ℕ) → ValidSheet s → IsBytes s → OneWay s
 one-way s p b =
@@ -453,7 +415,7 @@ one-way s p b =
       same = same;
       only = λ t q c h o m. sym (in-place t q c o m) ∙ canonical-same t s q p (same-sym s t h);
       models = same-models s (canonical s) same;
-      costs = same-cost s (canonical s) same;
+      costs = same-cost (problemOf s) (problemOf (canonical s)) (same .alike);
       least = λ L. (same-least s (canonical s) same L, same-least (canonical s) s back L);
       none-exists = (λ h α. same-breaks s (canonical s) same α (h α), λ h α. same-breaks (canonical s) s back α (h α));
       again = canonical-again s p b;

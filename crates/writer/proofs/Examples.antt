@@ -13,7 +13,8 @@ use Rattle.judgement.specs.Number.{numberAt}
 use Rattle.judgement.specs.Pairs.{body, bodyStart, pairFinding, pairsFinding}
 use Rattle.judgement.specs.Literals.{risesAt, rises, literalsFine}
 use Rattle.judgement.specs.Sheet.{marked, variables, lossSize, loss, sheetHead, sheetPairs, clauseForm, sheetFinding, aloneFinding}
-use Rattle.judgement.specs.Computed.{accepted, refused, allRight}
+use Rattle.judgement.specs.Judgement.{refused}
+use Rattle.judgement.specs.Computed.{accepted, allRight}
 use Rattle.judgement.specs.Writer.{bytesOf, numbersOf, pairsOf, joined, fileOf, sheetOf}
 use Rattle.judgement.proofs.Cases.Starred.{sheetA, recordA}
 use Rattle.writer.specs.Sorted.{compare, insert, sorted}

@@ -9,3 +9,4 @@ pub mod Answers
 pub mod Examples
 pub mod Only
 pub mod Canonical
+pub mod Longer

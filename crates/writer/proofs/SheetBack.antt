@@ -15,7 +15,9 @@ use Rattle.judgement.specs.Writer.{bytesOf, numbersOf, pairsOf, joined, fileOf,
 use Rattle.judgement.specs.Facts.{Among, PairRule, LiteralList, ValidSheet}
 use Rattle.judgement.proofs.Laws.Scan.{clash}
 use Rattle.judgement.proofs.Laws.Mark.{WithMark, NoMark, mark-or, variables-are}
-use Rattle.judgement.proofs.Complete.Bytes.{length-bytes, number-of, drop-past, length-numbers, drop-numbers}
+use Rattle.judgement.specs.Demands.{IsBytes}
+use Rattle.judgement.proofs.Complete.Bytes.{length-bytes, number-of, drop-past, length-numbers, drop-numbers, nil-bytes, bytes-are-bytes, append-bytes, numbers-are-bytes}
+use Rattle.judgement.proofs.Complete.Written.{pairs-bytes}
 use Rattle.judgement.proofs.Complete.Tables.{length-file, file-body, file-pairs}
 
 -- ---- what states a loss
@@ -199,3 +201,31 @@ module _ (lost : ℕ) (costs : List ℕ) (bodies : List (List ℕ))
             (let w = rw back-clauses at w in
             rw (back-clause k w, back-variables) (lists k w));
       }
+
+-- ---- a file
+
+loss-bytes : (lost : ℕ) → IsBytes (lossOf lost)
+loss-bytes lost = elim (loss-or lost) [
+  | inl o ↦ rw (o .bytes-are) nil-bytes
+  | inr o ↦ rw (o .bytes-are) (bytes-are-bytes 4 lost)
+]
+
+head-bytes : (lost : ℕ) (costs : List ℕ) (m : ℕ) → IsBytes (headOf lost costs m)
+head-bytes lost costs m =
+    append-bytes (bytesOf 2 field ++ bytesOf 2 m ++ numbersOf 4 costs) (lossOf lost)
+    (append-bytes (bytesOf 2 field ++ bytesOf 2 m) (numbersOf 4 costs)
+    (append-bytes (bytesOf 2 field) (bytesOf 2 m) (bytes-are-bytes 2 field) (bytes-are-bytes 2 m))
+    (numbers-are-bytes 4 costs))
+    (loss-bytes lost)
+  where
+    field : ℕ
+    field = markOf lost + length costs
+
+pub sheet-bytes : (lost : ℕ) (costs : List ℕ) (bodies : List (List ℕ)) → IsBytes (joined bodies) → IsBytes (sheetOf lost costs bodies)
+unfolding sheetOf fileOf
+sheet-bytes lost costs bodies bytes =
+    let m = length bodies in
+    let pairs = pairsOf (length (headOf lost costs m) + 8 * m) bodies in
+    append-bytes (headOf lost costs m ++ pairs) (joined bodies)
+    (append-bytes (headOf lost costs m) pairs (head-bytes lost costs m) (pairs-bytes (length (headOf lost costs m) + 8 * m) bodies))
+    bytes

@@ -8,9 +8,9 @@ use mathlib.Core.Logic.{_↔_, _≢_}
 use lib.ListN.{length, take, drop}
 use Rattle.judgement.specs.declared.Written.{Written}
 use Rattle.judgement.specs.Meaning.{Assignment, Model, cost, Least, Unsatisfiable}
-use Rattle.judgement.specs.Sheet.{mostBytes, marked, variables, clauses, costOf, loss, clause, problemOf}
+use Rattle.judgement.specs.Sheet.{mostBytes, marked, clauses, loss, clause, problemOf}
 use Rattle.judgement.specs.Judgement.{judgement}
-use Rattle.judgement.specs.Facts.{Among, In, ValidSheet}
+use Rattle.judgement.specs.Facts.{Among, SameMembers, ValidSheet, Alike}
 use Rattle.judgement.specs.Demands.{IsBytes}
 use Rattle.writer.specs.Order.{InOrder, InPlace}
 use Rattle.writer.specs.Canonical.{ordered, canonical, writing, leaves}
@@ -43,13 +43,11 @@ pub record WrittenWhen (s out : List ℕ) (r : Written) (left : List ℕ) : Type
 -- every clause of s is one of t: the same set of literals
 abbrev pub ClausesWithin : List ℕ → List ℕ → Type 0
 ClausesWithin s t =
-    (k : ℕ) → Among (clauses s) k → (j : ℕ) × Among (clauses t) j × ((c : ℕ) → In (clause s k) c ↔ In (clause t j) c)
+    (k : ℕ) → Among (clauses s) k → (j : ℕ) × Among (clauses t) j × SameMembers (clause s k) (clause t j)
 
 -- the same variables, costs, loss and set of clauses
 pub record SameProblem (s t : List ℕ) : Type 0 where
-  pub same-variables : variables s ≡ variables t
-  pub same-costs : (v : ℕ) → Among (variables s) v → costOf s v ≡ costOf t v
-  pub same-loss : loss s ≡ loss t
+  pub alike : Alike (problemOf s) (problemOf t)
   pub there : ClausesWithin s t
   pub back : ClausesWithin t s
 

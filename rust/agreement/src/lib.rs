@@ -125,7 +125,8 @@ const HEAD: &str = "\
 -- Assumes nothing.
 use lib.Dec.{T}
 use Rattle.judgement.specs.Writer.{bytesOf}
-use Rattle.judgement.specs.Computed.{accepted, within, refused, right, shows}
+use Rattle.judgement.specs.Judgement.{refused}
+use Rattle.judgement.specs.Computed.{accepted, within, right, shows}
 ";
 
 fn theorem(text: &mut String, i: usize, case: &Case) {

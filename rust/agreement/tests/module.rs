@@ -42,13 +42,22 @@ fn answers_are_written_by_their_names() {
     assert_eq!(answer_of("L2"), "refused 24 1");
 }
 
-/// The head takes in what the theorems are written with.
+/// The head takes in what the theorems are written with, each name from the file that has it.
 #[test]
 fn the_head_has_every_name() {
-    let module = module(&[]);
-    let (_, names) = module.split_once("Computed.{").expect("the names");
-    for name in ["accepted", "within", "refused", "right", "shows"] {
-        assert!(names.contains(name), "{name}");
+    let head = module(&[]);
+    let specs = concat!(env!("CARGO_MANIFEST_DIR"), "/../../crates/judgement/specs");
+    for (file, names) in [
+        ("Computed", &["accepted", "within", "right", "shows"][..]),
+        ("Judgement", &["refused"]),
+    ] {
+        let (_, taken) = head.split_once(&format!("{file}.{{")).expect("the file");
+        let (taken, _) = taken.split_once('}').expect("the names");
+        let definitions = std::fs::read_to_string(format!("{specs}/{file}.antt")).unwrap();
+        assert_eq!(taken.split(", ").collect::<Vec<_>>(), names);
+        for name in names {
+            assert!(definitions.contains(&format!(" pub {name} : ")), "{name}");
+        }
     }
 }
 

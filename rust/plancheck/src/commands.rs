@@ -1,5 +1,6 @@
 //! The commands: each reads its files, does its work, and gives the exit code.
 
+mod adding;
 mod judging;
 mod planning;
 mod searching;
@@ -26,12 +27,13 @@ struct Command {
 }
 
 #[rustfmt::skip]
-const COMMANDS: [Command; 10] = [
+const COMMANDS: [Command; 11] = [
     Command { name: "judge", help: help::JUDGE, known: &[], run: judging::judge },
     Command { name: "explain", help: help::EXPLAIN, known: &[], run: judging::explained },
     Command { name: "stats", help: help::STATS, known: &[], run: judging::counted },
     Command { name: "text", help: help::TEXT, known: &["--record", "-o"], run: texts::as_text },
     Command { name: "pack", help: help::PACK, known: &["-o"], run: texts::packed },
+    Command { name: "add", help: help::ADD, known: &["-o"], run: adding::added },
     Command { name: "write", help: help::WRITE, known: &["-o"], run: writing::written },
     Command { name: "trim", help: help::TRIM, known: &["-o"], run: trimming::trimmed },
     Command { name: "search", help: help::SEARCH, known: &["--budget"], run: searching::searched },
@@ -98,6 +100,13 @@ fn code(answer: &proved::Answer) -> u8 {
         Verdict::Least | Verdict::NoneExists => 0,
         Verdict::Refused => 1,
         Verdict::Within => 3,
+    }
+}
+
+fn clause_count(count: usize) -> String {
+    match count {
+        1 => "1 clause".to_string(),
+        count => format!("{count} clauses"),
     }
 }
 

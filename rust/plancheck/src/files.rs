@@ -5,6 +5,7 @@ use crate::failure::Failure;
 use crate::record::Record;
 use crate::refusals::sentence;
 use crate::sheet::{is_marked, Sheet};
+use planner::Problem;
 use proved::Answer;
 use std::fs::{self, File};
 use std::io::{self, ErrorKind, IsTerminal, Read, Write};
@@ -74,9 +75,20 @@ fn existing(path: &Path) -> io::Result<Option<PathBuf>> {
     }
 }
 
+/// Refuses an output that is this input, and would take its place as a file of another sort.
+pub fn keeps(output: &Path, input: &Path, what: &str) -> Result<(), Failure> {
+    match is_same(output, input) {
+        true => Err(Failure::Usage(format!(
+            "{} is the {what}, which would be lost",
+            output.display()
+        ))),
+        false => Ok(()),
+    }
+}
+
 /// Whether both paths lead to one file, behind all links, so that what is written to one takes the place of the other. A hard
 /// link is another file in this: it alone is replaced.
-pub fn is_same(one: &Path, other: &Path) -> bool {
+fn is_same(one: &Path, other: &Path) -> bool {
     let found = |path: &Path| fs::canonicalize(path).ok().filter(|found| found.is_file());
     found(one).is_some_and(|one| found(other) == Some(one))
 }
@@ -120,14 +132,29 @@ fn new_beside(old: &Path) -> io::Result<(PathBuf, File)> {
     }
 }
 
-/// The sheet, where the proved checker has nothing against it: with an empty record its refusals come first, and the
+/// What the proved checker has against a sheet, if anything: with an empty record the sheet's refusals come first, and the
 /// record's own is number 5.
-pub fn valid_sheet<'a>(path: &Path, bytes: &'a [u8]) -> Result<Sheet<'a>, Failure> {
-    let answer = proved::judge(bytes, &[]);
-    match Sheet::open(bytes).filter(|_| answer.number == 5) {
-        Some(sheet) => Ok(sheet),
-        None => Err(refused_sheet(path, bytes, &answer)),
+pub fn judged_alone(bytes: &[u8]) -> Result<(), Answer> {
+    match proved::judge(bytes, &[]) {
+        answer if answer.number == 5 => Ok(()),
+        answer => Err(answer),
     }
+}
+
+/// The sheet, where the proved checker has nothing against it.
+pub fn valid_sheet<'a>(path: &Path, bytes: &'a [u8]) -> Result<Sheet<'a>, Failure> {
+    judged_alone(bytes).map_err(|answer| refused_sheet(path, bytes, &answer))?;
+    Sheet::open(bytes).ok_or_else(|| unread(path))
+}
+
+/// What stands in such a sheet.
+pub fn problem(path: &Path, bytes: &[u8]) -> Result<Problem, Failure> {
+    let problem = valid_sheet(path, bytes)?.problem();
+    problem.ok_or_else(|| unread(path))
+}
+
+fn unread(path: &Path) -> Failure {
+    Failure::Content(format!("{}: byte 0: no problem here", path.display()))
 }
 
 fn refused_sheet(path: &Path, bytes: &[u8], answer: &Answer) -> Failure {

@@ -1,7 +1,7 @@
 //! What each command is for, and how it is called.
 
 pub const ALL: &str = "\
-plancheck: judges plans by the proved checker, and shows, trims, writes, searches, plans and imports them
+plancheck: judges plans by the proved checker, shows, trims, searches, plans and imports them, and writes sheets and adds to them
 
   plancheck judge SHEET RECORD               the answer, as one line
   plancheck explain SHEET RECORD             the answer in plain words, with its place
@@ -9,6 +9,7 @@ plancheck: judges plans by the proved checker, and shows, trims, writes, searche
   plancheck text SHEET                       the sheet as text
   plancheck text --record SHEET RECORD       the record as text
   plancheck pack TEXT -o FILE                from text back to bytes
+  plancheck add SHEET TEXT -o OUT            the sheet with the clauses of a text behind its own
   plancheck write SHEET -o OUT               the sheet in the one way to write it, to compare it with others
   plancheck trim SHEET RECORD -o OUT         the record without the steps that lead nowhere
   plancheck search SHEET                     the best plan that the proved search finds, without a record
@@ -92,6 +93,25 @@ plancheck pack TEXT -o FILE
 Turns the text of a sheet or of a record into the file. See 'plancheck text --help' for the lines. Faults name the line.
 What the file's fields can hold is written, right or wrong; 'plancheck judge' says which. The number of variables has 15 bits,
 so that 32767 are the most, of a sheet and of its record: the highest bit of its field is the mark.
+";
+
+pub const ADD: &str = "\
+plancheck add SHEET TEXT -o OUT
+
+Writes a valid sheet with the clauses of TEXT behind its own, in their order. TEXT has lines 'clause' as the text of a sheet has
+them, and comments, and nothing else: see 'plancheck text --help'. The clauses of SHEET keep their numbers and their bytes. The
+costs stay, and so does the mark with its loss, even where that is 0. What stands in SHEET already is added once more.
+
+A record that is accepted or within a gap beside SHEET has the same answer beside OUT, if its assignment satisfies every added
+clause, or if it claims none. If neither, it is refused there with 10, at the first added clause that its assignment breaks, and
+OUT is to be planned anew. Of a record that is refused beside SHEET nothing is said.
+
+OUT may be SHEET itself, but not TEXT, which would be lost. Keep SHEET where a record of it may break an added clause: the record
+is right beside SHEET alone. Prints how many clauses and bytes OUT has, and the numbers of those that were added.
+
+Exit code 0 for a sheet that is written. 1 for a refused sheet, for a text with a fault or without any clause, and for more than
+4096 clauses together: that leaves OUT as it was, and a fault of the text names its line, or the byte where it is no text. 2 for
+wrong use and files that cannot be read or written. Where OUT cannot be written, a file that stood there stays as it was.
 ";
 
 pub const WRITE: &str = "\

@@ -32,6 +32,11 @@ struct Lines<'a> {
 }
 
 impl<'a> Lines<'a> {
+    fn new(text: &'a str) -> Self {
+        let lines = text.lines().enumerate();
+        Lines { lines, last: 0 }
+    }
+
     fn next(&mut self) -> Option<Words<'a>> {
         for (place, line) in self.lines.by_ref() {
             self.last = place + 1;
@@ -57,8 +62,7 @@ impl<'a> Lines<'a> {
 
 /// The file that the text describes.
 pub fn pack(text: &str) -> Result<(Packed, Vec<u8>), Fault> {
-    let lines = text.lines().enumerate();
-    let mut lines = Lines { lines, last: 0 };
+    let mut lines = Lines::new(text);
     let Some(mut first) = lines.next() else {
         let reason = "the text is empty: begin with a line 'sheet' or 'record'".into();
         return Err(Fault { line: 1, reason });
@@ -139,6 +143,33 @@ fn loss(words: &mut Words, before: &Problem) -> Result<u32, Fault> {
     let loss = words.number("the loss", u64::from(u32::MAX))?;
     words.end()?;
     Ok(loss as u32)
+}
+
+/// A clause of a text, with the line that it stands in.
+#[derive(Clone, Debug, PartialEq, Eq)]
+pub struct Clause {
+    pub line: usize,
+    pub literals: Vec<Literal>,
+}
+
+/// The clauses of a text that has nothing else, one at least: a text without any is hardly the one that was meant.
+pub fn clauses(text: &str) -> Result<Vec<Clause>, Fault> {
+    let mut lines = Lines::new(text);
+    let mut clauses = Vec::new();
+    while let Some(mut words) = lines.next() {
+        let word = words.take().unwrap_or_default();
+        if word != "clause" {
+            let others = format!("'clause' is due here, not '{word}': nothing else can be added");
+            return Err(words.fault(others));
+        }
+        let (line, literals) = (words.line, clause(&mut words)?);
+        clauses.push(Clause { line, literals });
+    }
+    if clauses.is_empty() {
+        let reason = "there is nothing to add: write lines 'clause'".into();
+        return Err(Fault { line: 1, reason });
+    }
+    Ok(clauses)
 }
 
 fn clause(words: &mut Words) -> Result<Vec<Literal>, Fault> {

@@ -10,9 +10,10 @@ use std::os::unix::fs::{symlink, FileTypeExt, MetadataExt, PermissionsExt};
 use std::process::{Command, Output};
 
 /// Every command that writes a file, but for the file that `-o` names.
-const WRITING: [&[&str]; 6] = [
+const WRITING: [&[&str]; 7] = [
     &["text", "sheet"],
     &["pack", "sheet.txt"],
+    &["add", "sheet", "more.txt"],
     &["write", "sheet"],
     &["trim", "sheet", "record"],
     &["plan", "sheet"],
@@ -32,6 +33,7 @@ fn filled(name: &str) -> Folder {
     folder.write("sheet", pack(&text).unwrap().1);
     folder.write("record", pack(&record).unwrap().1);
     folder.write("sheet.txt", text);
+    folder.write("more.txt", "clause 1 2\n");
     folder.write("sheet.wcnf", "p wcnf 1 1 9\n9 1 0\n");
     folder
 }
@@ -100,6 +102,12 @@ fn outlives(folder: &Folder, file: &str, command: &[&str]) {
 #[test]
 fn a_sheet_outlives_writing_over_itself() {
     outlives(&filled("outlives"), "sheet", &["write", "sheet"]);
+}
+
+#[test]
+fn a_sheet_outlives_adding_to_itself() {
+    let folder = filled("outlives-add");
+    outlives(&folder, "sheet", &["add", "sheet", "more.txt"]);
 }
 
 #[test]

@@ -4,8 +4,8 @@ mod common;
 
 use common::{code, complained, printed, Folder};
 
-const COMMANDS: [&str; 10] = [
-    "judge", "explain", "stats", "text", "pack", "write", "trim", "search", "plan", "import",
+const COMMANDS: [&str; 11] = [
+    "judge", "explain", "stats", "text", "pack", "add", "write", "trim", "search", "plan", "import",
 ];
 
 #[test]
@@ -67,13 +67,15 @@ fn wrong_use_shows_help_and_exits_with_2() {
 fn files_that_cannot_be_read_or_written_exit_with_2() {
     let folder = Folder::new("unreadable");
     folder.write("a.txt", "sheet\ncost 1 1\n");
-    let calls: [(&[&str], &str); 12] = [
+    let calls: [(&[&str], &str); 14] = [
         (&["judge", "a.txt", "gone"], "gone"),
         (&["explain", "gone", "a.txt"], "gone"),
         (&["text", "."], "."),
         (&["pack", "gone", "-o", "b"], "gone"),
         (&["pack", "a.txt", "-o", "gone/b"], "gone/b"),
         (&["pack", "a.txt", "-o", "."], "."),
+        (&["add", "gone", "a.txt", "-o", "b"], "gone"),
+        (&["add", "a.txt", "gone", "-o", "b"], "gone"),
         (&["write", "gone", "-o", "b"], "gone"),
         (&["trim", "gone", "a.txt", "-o", "b"], "gone"),
         (&["trim", "a.txt", "gone", "-o", "b"], "gone"),

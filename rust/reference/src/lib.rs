@@ -1,5 +1,5 @@
 //! The reference checker: document 01, with changes 1, 2, 3, 5, 6, 7, 8 and 9 of document 02, in the plainest Rust
-//! there is. Change 4 alters no answer.
+//! there is. Changes 4 and 10 alter no answer.
 //!
 //! It exists to be compared with the proved checker, so it shares nothing with it and prefers sets, copies and
 //! wide numbers to speed. Each function is meant to be held beside one row of document 01's refusal table,

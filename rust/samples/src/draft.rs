@@ -145,6 +145,7 @@ pub fn code_bytes(codes: &[u16]) -> Vec<u8> {
 }
 
 /// What a sheet is made of.
+#[derive(Clone, Debug, PartialEq, Eq)]
 pub struct Parts {
     pub loss: Option<u32>,
     pub costs: Vec<u32>,

@@ -6,6 +6,7 @@ pub mod damage;
 pub mod draft;
 pub mod examples;
 pub mod greatest;
+pub mod longer;
 pub mod outcome;
 pub mod random;
 pub mod searching;

@@ -7,7 +7,8 @@ use mathlib.Core.List.{List, [], _∷_}
 use lib.Dec.{T}
 use Rattle.judgement.specs.Meaning.{positive, negative, none}
 use Rattle.judgement.specs.Writer.{bytesOf, numbersOf, pairsOf, joined, fileOf, sheetOf, stepOf, recordOf}
-use Rattle.judgement.specs.Computed.{Case, refused, allRight}
+use Rattle.judgement.specs.Judgement.{refused}
+use Rattle.judgement.specs.Computed.{Case, allRight}
 use Rattle.judgement.proofs.Cases.Starred.{clause, costStep, independentStep, sheetC}
 
 -- of the sheet s, under "none", a step with these literals and the bound 0 that cites these clauses

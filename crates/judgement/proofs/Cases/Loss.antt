@@ -9,8 +9,8 @@ use lib.ListN.{set, replicate}
 use lib.Dec.{T}
 use Rattle.judgement.specs.Meaning.{positive, negative, none}
 use Rattle.judgement.specs.Writer.{bytesOf, numbersOf, pairsOf, joined, fileOf, sheetOf, stepOf, recordOf, entriesOf, weightedTail}
-use Rattle.judgement.specs.Judgement.{stepPart, shownPart}
-use Rattle.judgement.specs.Computed.{Case, accepted, within, refused, right, allRight}
+use Rattle.judgement.specs.Judgement.{refused, stepPart, shownPart}
+use Rattle.judgement.specs.Computed.{Case, accepted, within, right, allRight}
 use Rattle.judgement.proofs.Cases.Starred.{clause, copyStep, costStep, independentStep, resolutionStep, sheetA, recordA}
 
 -- ---- sheet A with a loss of 4, byte for byte

@@ -11,8 +11,8 @@ use lib.Dec.{T}
 use borrow.Author.Tests.{lt-leb}
 use Rattle.judgement.specs.Writer.{bytesOf, numbersOf, pairsOf, joined, fileOf, sheetOf}
 use Rattle.judgement.specs.Sheet.{mostBytes}
-use Rattle.judgement.specs.Judgement.{oversize, finding, judgement}
-use Rattle.judgement.specs.Computed.{Case, refused, allRight}
+use Rattle.judgement.specs.Judgement.{refused, oversize, finding, judgement}
+use Rattle.judgement.specs.Computed.{Case, allRight}
 use Rattle.judgement.proofs.Cases.Starred.{sheetA, recordA, clause, sheetB1, sheetC}
 
 -- ---- 1, oversize

@@ -7,8 +7,8 @@ use mathlib.Core.List.{List, [], _∷_, _++_}
 use lib.Dec.{T}
 use Rattle.judgement.specs.Meaning.{positive, negative, none}
 use Rattle.judgement.specs.Writer.{bytesOf, numbersOf, pairsOf, joined, fileOf, sheetOf, stepOf, recordOf, entriesOf, weightedTail}
-use Rattle.judgement.specs.Judgement.{stepPart, shownPart}
-use Rattle.judgement.specs.Computed.{Case, accepted, refused, right, allRight}
+use Rattle.judgement.specs.Judgement.{refused, stepPart, shownPart}
+use Rattle.judgement.specs.Computed.{Case, accepted, right, allRight}
 use Rattle.judgement.proofs.Cases.Starred.{clause, costStep, resolutionStep, sheetA, sheetC}
 
 -- a clause by its number, and its weight

@@ -7,7 +7,8 @@ use lib.ListN.{set}
 use lib.Dec.{T}
 use Rattle.judgement.specs.Meaning.{positive, negative, none}
 use Rattle.judgement.specs.Writer.{bytesOf, numbersOf, pairsOf, joined, fileOf, sheetOf, stepOf, recordOf}
-use Rattle.judgement.specs.Computed.{Case, accepted, within, refused, allRight}
+use Rattle.judgement.specs.Judgement.{refused}
+use Rattle.judgement.specs.Computed.{Case, accepted, within, allRight}
 use Rattle.judgement.proofs.Cases.Starred.{copyStep, costStep, resolutionStep, sheetA, recordA}
 
 -- ---- one resolution of two premises; a step of no kind follows, so that 8 at 4 tells that the resolution passes

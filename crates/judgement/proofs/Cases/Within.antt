@@ -8,8 +8,8 @@ use lib.ListN.{set}
 use lib.Dec.{T}
 use Rattle.judgement.specs.Meaning.{positive, negative, none}
 use Rattle.judgement.specs.Writer.{bytesOf, numbersOf, pairsOf, joined, fileOf, sheetOf, stepOf, recordOf}
-use Rattle.judgement.specs.Judgement.{judgement, passes, saysLeast, saysNone, saysWithin, accepts, stepPart, shownPart}
-use Rattle.judgement.specs.Computed.{Case, accepted, within, refused, right, allRight}
+use Rattle.judgement.specs.Judgement.{refused, judgement, passes, saysLeast, saysNone, saysWithin, accepts, stepPart, shownPart}
+use Rattle.judgement.specs.Computed.{Case, accepted, within, right, allRight}
 use Rattle.judgement.proofs.Cases.Starred.{clause, copyStep, costStep, independentStep, resolutionStep, sheetA, recordA, sheetB1, sheetB2, recordB2}
 
 -- ---- the gap

@@ -14,6 +14,7 @@ use lib.IntN.{ℤ, pos, negsuc, negℤ, subℕ, natAbs, _+ℤ_, _-ℤ_, _*ℤ_}
 use borrow.Author.Tests.{lt-ltb, le-ltb}
 use Rattle.judgement.specs.Scan.{sumOf}
 use Rattle.judgement.specs.Integers.{sumOfℤ, belowZero, roundedUp, IsRoundedUp}
+use Rattle.judgement.specs.Facts.{Among}
 
 -- what z has above zero, and what it lacks
 abbrev pub up : ℤ → ℕ
@@ -84,6 +85,12 @@ unfolding sumOfℤ sumOf
 sum-diff f g h zero e = refl
 sum-diff f g h (suc n) e =
     add-diff (sumOfℤ f n) (f (suc n)) (sumOf g n) (sumOf h n) (g (suc n)) (h (suc n)) (sum-diff f g h n e) (e (suc n))
+
+pub sumℤ-same : (f g : ℕ → ℤ) (n : ℕ) → ((k : ℕ) → Among n k → f k ≡ g k) → sumOfℤ f n ≡ sumOfℤ g n
+unfolding sumOfℤ
+sumℤ-same f g zero h = refl
+sumℤ-same f g (suc n) h =
+    rw (sumℤ-same f g n (λ k w. h k (w .0, omega (arith, w .1))), h (suc n) (omega arith, omega arith))
 
 -- ---- equality
 

@@ -1,7 +1,7 @@
 -- A table of pairs and its bodies: those that keep the pair rule fill their file; and such a table written one entry after the
 -- other, where g gives the body for each entry of a list `order`.
 -- Assumes nothing.
-use Prim.Native.Nat.{ℕ, zero, suc, _+_, _-_, _*_, _≤_, _<_}
+use Prim.Native.Nat.{ℕ, zero, suc, _+_, _*_, _≤_, _<_}
 use mathlib.Core.Path.{_≡_, refl, sym, ap, _∙_}
 use mathlib.Core.List.{List, [], _∷_, _++_, map, map-append, append-assoc, append-nil}
 use native.Mathlib.Omega.{arith}
@@ -37,7 +37,7 @@ lengths-fill f at (suc k) rule = sym (ends-sum f at (suc k) rule k (omega arith)
 
 -- ---- one more body
 
-joined-append : (l m : List (List ℕ)) → joined (l ++ m) ≡ joined l ++ joined m
+pub joined-append : (l m : List (List ℕ)) → joined (l ++ m) ≡ joined l ++ joined m
 unfolding joined
 joined-append [] m = refl
 joined-append (b ∷ l) m = rw (joined-append l m, append-assoc)
@@ -53,6 +53,12 @@ pairs-end start [] b = rw (append-nil, add-zero)
 pairs-end start (c ∷ l) b =
     let e : start + length c + length (joined l) ≡ start + (length c + length (joined l)) = omega arith in
     rw (pairs-end (start + length c) l b, length-append c (joined l), e) (simp append-assoc)
+
+-- the body of the entry at a place
+pub map-at : (g : ℕ → List ℕ) (l : List ℕ) (i : ℕ) → i < length l → getD (map g l) i [] ≡ g (getD l i 0)
+map-at g [] i h = absurd (omega arith)
+map-at g (k ∷ l) zero h = refl
+map-at g (k ∷ l) (suc i) h = map-at g l i (omega arith)
 
 -- the bodies of the first i entries
 abbrev pub firsts : (ℕ → List ℕ) → List ℕ → ℕ → List (List ℕ)

@@ -11,10 +11,10 @@ use Rattle.judgement.specs.declared.Finding.{Finding}
 use Rattle.judgement.specs.declared.Finding.the-variants.{Fine, Fault}
 use Rattle.judgement.specs.Finding.{_then_, overAll}
 use Rattle.judgement.specs.Pairs.{pairFinding, pairsFinding}
-use Rattle.judgement.specs.Sheet.{clauses, clause, sheetFinding, sheetPairs, clauseForm}
+use Rattle.judgement.specs.Sheet.{clauses, sheetFinding, sheetPairs, clauseForm}
 use Rattle.judgement.specs.declared.Kind.{Kind}
 use Rattle.judgement.specs.declared.Kind.the-variants.{Copy, Cost, IndependentSet, Resolvent, WeightedSet, Unknown}
-use Rattle.judgement.specs.Step.{kindOf, literals, cited}
+use Rattle.judgement.specs.Step.{kindOf, literals, cited, citedClause}
 use Rattle.judgement.specs.Record.{claimsNone, steps, step, recordPairs, recordFinding, brokenClause, claimedCost}
 use Rattle.judgement.specs.Kinds.{dependsOn, dependence, resolutionFinding, kindFinding}
 use Rattle.judgement.specs.Judgement.{assignmentFinding, stepFinding, finding, answerOf, judgement}
@@ -59,7 +59,7 @@ unfolding kindTests kindFinding dependence
 first-kind Copy s r k = then-fine _
 first-kind Cost s r k = then-fine _
 first-kind IndependentSet s r k =
-    rw (first-append, first-each _ _ _ (λ j. first-dependence s (step s r k) k j (literals (step s r k)) (clause s (cited (step s r k) j))), then-fine)
+    rw (first-append, first-each _ _ _ (λ j. first-dependence s (step s r k) k j (literals (step s r k)) (citedClause s (step s r k) j)), then-fine)
 first-kind Resolvent s r k = first-resolution (step s r (cited (step s r k) 1)) (step s r (cited (step s r k) 2)) (step s r k) k
 first-kind WeightedSet s r k = rw then-fine
 first-kind Unknown s r k = refl

@@ -17,13 +17,13 @@ use Rattle.judgement.specs.Sheet.{clauses}
 use Rattle.judgement.specs.Record.{step}
 use Rattle.judgement.specs.declared.Kind.{Kind}
 use Rattle.judgement.specs.declared.Kind.the-variants.{Copy, Cost, IndependentSet, Resolvent, WeightedSet, Unknown}
-use Rattle.judgement.specs.Step.{kindOf, bound, literals, cited, citedCount, stepForm, citesFine, citation}
+use Rattle.judgement.specs.Step.{kindOf, bound, literals, cited, citedClause, citedCount, stepForm, citesFine, citation}
 use Rattle.judgement.specs.Kinds.{settled, noneTrue, unsettledPositive, someUnsettled, usedBefore, unshared}
 use Rattle.judgement.specs.Kinds.{trueFinding, negativeFinding, settledFinding, sharedFinding, dependsOn, dependence}
 use Rattle.judgement.specs.Kinds.{copyFinding, costBound, independentCost, independentBound, pivotFinding, resolventFinding, lesserBound, resolutionFinding, kindFinding}
 use Rattle.judgement.specs.Linear.{weightsFinding, linearBound}
 use Rattle.judgement.specs.Judgement.{finding, judgement}
-use Rattle.judgement.specs.Facts.{Among, In, Mentions, citedClause, Free, CitesClauses}
+use Rattle.judgement.specs.Facts.{Among, In, Mentions, Free, CitesClauses}
 use Rattle.judgement.specs.Refusals.{Dependent, made-true, negative-yet, all-settled, shared-yet, FirstDependent, Reached, RefusedIndependent, isOfIndependent}
 use Rattle.judgement.specs.Demands.{WhichIndependent}
 use Rattle.judgement.proofs.Laws.Scan.{clash, or-e, or-none-l, or-none-r, false-i, all-fails, any-at}

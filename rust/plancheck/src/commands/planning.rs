@@ -20,9 +20,7 @@ pub(super) fn planned(args: &Args, out: &mut dyn Write) -> Outcome {
         return Err(Failure::Usage(both.into()));
     }
     let bytes = files::read(path)?;
-    let sheet = files::valid_sheet(path, &bytes)?;
-    let unread = || Failure::Content(format!("{}: byte 0: no problem here", path.display()));
-    let problem = sheet.problem().ok_or_else(unread)?;
+    let problem = files::problem(path, &bytes)?;
     // The planner leaves idle steps out by itself. That none is written is the proved trimmer's word all the same, and not its own.
     let record = trim::without_idle_steps(&bytes, plan(args, path, &problem)?.record());
     files::write(output, &record)?;

@@ -2,7 +2,6 @@
 
 use super::{both, print, Outcome};
 use crate::args::Args;
-use crate::failure::Failure;
 use crate::files;
 use crate::text::amount;
 use crate::trim::{self, Trimmed};
@@ -13,10 +12,7 @@ use std::path::Path;
 pub(super) fn trimmed(args: &Args, out: &mut dyn Write) -> Outcome {
     let [sheet_path, record_path] = args.files()?;
     let output = args.needed_output()?;
-    if files::is_same(output, sheet_path) {
-        let lost = format!("{} is the sheet, which would be lost", output.display());
-        return Err(Failure::Usage(lost));
-    }
+    files::keeps(output, sheet_path, "sheet")?;
     let (sheet, record) = both(args)?;
     files::valid_sheet(sheet_path, &sheet)?;
     let trimmed = trim::trimmed(&sheet, &record)

@@ -1,6 +1,6 @@
 //! The command that writes a sheet in the one way.
 
-use super::{print, Outcome};
+use super::{clause_count, print, Outcome};
 use crate::args::Args;
 use crate::files;
 use crate::sheet::{is_marked, Sheet};
@@ -31,10 +31,7 @@ fn told(output: &Path, sheet: &[u8], canonical: &[u8]) -> String {
         true => "the mark is left out, since the loss is 0\n",
         false => "",
     };
-    let clauses = match after.len() {
-        1 => "1 clause".to_string(),
-        count => format!("{count} clauses"),
-    };
+    let clauses = clause_count(after.len());
     format!("{output}: {clauses}, {bytes} bytes; repeats left out: {repeats}\n{mark}{moved}\n")
 }
 
