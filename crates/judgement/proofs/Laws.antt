@@ -1,6 +1,5 @@
 -- Laws of the definitions that every other proof cites.
 pub mod Scan
-pub mod Chosen
 pub mod Findings
 pub mod Answers
 pub mod Members

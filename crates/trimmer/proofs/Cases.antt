@@ -8,7 +8,7 @@ use mathlib.Core.Bool.{true}
 use mathlib.Core.List.{List, [], ◌∷◌, ◌++◌}
 use lib.ListN.{set, replicate}
 use Rattle.judgement.specs.declared.Written.{Written}
-use Rattle.judgement.specs.Scan.{sum_of, list_of, chosen}
+use Rattle.judgement.specs.Scan.{sum_of, list_of}
 use Rattle.judgement.specs.Meaning.{none}
 use Rattle.judgement.specs.Number.{number_at}
 use Rattle.judgement.specs.Pairs.{body}
@@ -17,7 +17,7 @@ use Rattle.judgement.specs.Step.{kind_of}
 use Rattle.judgement.specs.Writer.{bytes_of, numbers_of, pairs_of, joined, file_of, sheet_of, step_of, record_of, entries_of, weighted_tail}
 use Rattle.judgement.specs.Computed.{accepted, within, right, all_right}
 use Rattle.judgement.proofs.Cases.Starred.{sheet_a, record_a, sheet_b2, record_b2, copy_step, cost_step, independent_step, resolution_step}
-use Rattle.trimmer.specs.Trim.{cites_step, kept_after, citing, renumbered, trimmed, marks_of, few_marks, short_output, mark_finding, trim_finding, trimming, marks_left, output_left}
+use Rattle.trimmer.specs.Trim.{cites_step, kept_after, chosen, citing, renumbered, trimmed, marks_of, few_marks, short_output, mark_finding, trim_finding, trimming, marks_left, output_left}
 
 -- record A with an idle cost as step 2 and an idle resolution of steps 1 and 2 as step 3
 abbrev idle_a : List ℕ

@@ -1,4 +1,5 @@
 pub mod Kept
+pub mod Chosen
 pub mod Renumbering
 pub mod Moving
 pub mod Trimmed

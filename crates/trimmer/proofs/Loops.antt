@@ -7,13 +7,13 @@ use native.Mathlib.Omega.{arith}
 use lib.ListN.{length, get_or, take, length-append, length-map}
 use lib.Seq.{length-take-le}
 use lib.Dec.{eqb}
-use Rattle.judgement.specs.Scan.{one, count_of, chosen}
+use Rattle.judgement.specs.Scan.{one, count_of}
 use Rattle.judgement.specs.Buffer.{over}
 use Rattle.judgement.proofs.Laws.Buffer.{length_over, over_next}
 use Rattle.judgement.proofs.Complete.Tables.{length_pairs}
-use Rattle.trimmer.specs.Trim.{kept, new_body}
+use Rattle.trimmer.specs.Trim.{kept, chosen, new_body}
 use Rattle.trimmer.specs.Work.{Marked, Sampled, between, kept_body, bodies_to, pair_if, pairs_to}
-use Rattle.judgement.proofs.Laws.Chosen.{length_chosen, count_at_most}
+use Rattle.trimmer.proofs.Chosen.{length_chosen, count_at_most}
 use Rattle.trimmer.proofs.Behind.{nothing_more, between_same}
 use Rattle.trimmer.proofs.Steps.{bodies_none, bodies_next, next_pair, pairs_none, pairs_next, grows_by, grows, grows_room}
 use Rattle.trimmer.proofs.Parts.{pair_length}

@@ -18,7 +18,7 @@ use Rattle.judgement.specs.Facts.{Among}
 use Rattle.judgement.proofs.Complete.Bytes.{length_bytes, number_of}
 use Rattle.judgement.proofs.Laws.Buffer.{part_from, part_put, length_from, put_room}
 use Rattle.trimmer.specs.Work.{marked, Sampled}
-use Rattle.judgement.proofs.Laws.Chosen.{count_at_most}
+use Rattle.trimmer.proofs.Chosen.{count_at_most}
 use Rattle.trimmer.proofs.Renumbering.{number_front}
 use Rattle.trimmer.proofs.Behind.{behind_written}
 

@@ -34,7 +34,7 @@ use Rattle.judgement.proofs.Facts.Accepted.{facts_fine, passed_fine, passes_clos
 use Rattle.trimmer.specs.Trim.{cites, kept, citing, new_number, renumbered, new_body, trimmed, marks_of, few_marks, short_output, mark_finding, trim_finding, trimming, output_left}
 use Rattle.trimmer.specs.Promises.{LeastClosed, Renumbered, with_steps, Trimming}
 use Rattle.trimmer.proofs.Kept.{least_only}
-use Rattle.judgement.proofs.Laws.Chosen.{count_rises, count_from}
+use Rattle.trimmer.proofs.Chosen.{count_rises, count_from}
 use Rattle.trimmer.proofs.Moving.{cites_when, same_body}
 use Rattle.trimmer.proofs.Trimmed.{kept_set, new_alike, trimmed_shorter, trimmed_steps, number_among, moved, new_citations, trimmed_last, agree, trimmed_claim, trimmed_passes, trimmed_count, every_kept, trimmed_again}
 

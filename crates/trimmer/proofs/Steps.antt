@@ -11,7 +11,7 @@ use native.Mathlib.Numerals.{add-one}
 use lib.ListN.{length, get_or, drop, length-append, length-take, length-drop}
 use lib.Dec.{eqb}
 use borrow.Author.Tests.{eq-eqb, ne_eqb}
-use Rattle.judgement.specs.Scan.{one, count_of, chosen}
+use Rattle.judgement.specs.Scan.{one, count_of}
 use Rattle.judgement.specs.Pairs.{pair_offset, pair_length, body}
 use Rattle.judgement.specs.Record.{steps, step}
 use Rattle.judgement.specs.declared.Kind.{Kind}
@@ -23,9 +23,9 @@ use Rattle.judgement.proofs.Laws.Scan.{which, or_l, or_r, list_at, count_same}
 use Rattle.judgement.proofs.Laws.Table.{pairs_end}
 use Rattle.checker.specs.Read.{Within}
 use Rattle.checker.proofs.Known.{step_within}
-use Rattle.trimmer.specs.Trim.{cites_step, kept, new_number, renumbered, new_body, marks_of}
+use Rattle.trimmer.specs.Trim.{cites_step, kept, chosen, new_number, renumbered, new_body, marks_of}
 use Rattle.trimmer.specs.Work.{Passed, Marked, Citing, marked, kept_body, bodies_to, pair_if, pairs_to}
-use Rattle.judgement.proofs.Laws.Chosen.{chosen_taken, chosen_left, chosen_joined}
+use Rattle.trimmer.proofs.Chosen.{chosen_taken, chosen_left, chosen_joined}
 use Rattle.trimmer.proofs.Moving.{cites_earlier, whole_resolution}
 use Rattle.trimmer.proofs.Trimmed.{new_alike}
 use Rattle.trimmer.proofs.When.{marks_size}

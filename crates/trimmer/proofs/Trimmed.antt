@@ -25,7 +25,7 @@ use Rattle.judgement.proofs.Complete.Least.{Agree, model_local, cost_local}
 use Rattle.trimmer.specs.Trim.{cites, kept, kept_steps, new_number, new_body, kept_bodies, assignment_bytes, trimmed}
 use Rattle.trimmer.specs.Promises.{LeastClosed}
 use Rattle.trimmer.proofs.Kept.{kept_closed_least}
-use Rattle.judgement.proofs.Laws.Chosen.{count_at_most, count_rises, count_grows, count_all, count_from, length_chosen, chosen_at, chosen_all, chosen_size}
+use Rattle.trimmer.proofs.Chosen.{count_at_most, count_rises, count_grows, count_all, count_from, length_chosen, chosen_at, chosen_all, chosen_size}
 use Rattle.trimmer.proofs.Renumbering.{Alike, renumbered_alike, layout_alike}
 use Rattle.trimmer.proofs.Moving.{cites_earlier, whole_resolution, Moved, moved_alike, Stands, cites_new, inference_moved, cites_moved, moved_again}
 

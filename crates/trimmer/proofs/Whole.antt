@@ -25,7 +25,7 @@ use Rattle.judgement.proofs.Complete.Bytes.{length_bytes}
 use Rattle.judgement.proofs.Facts.Accepted.{passed_fine, passes_before}
 use Rattle.trimmer.specs.Trim.{kept, kept_steps, new_body, kept_bodies, assignment_bytes, trimmed, marks_of, few_marks, short_output, mark_finding, trim_finding, trimming, marks_left, output_left}
 use Rattle.trimmer.specs.Work.{Passed, Marked, marked, bodies_to, pairs_to, head_bytes}
-use Rattle.judgement.proofs.Laws.Chosen.{count_at_most, count_rises, length_chosen}
+use Rattle.trimmer.proofs.Chosen.{count_at_most, count_rises, length_chosen}
 use Rattle.trimmer.proofs.Trimmed.{kept_set, size_is, trimmed_shorter}
 use Rattle.trimmer.proofs.Behind.{behind_written, part_in}
 use Rattle.trimmer.proofs.Steps.{few_steps, marks_length, counted}

@@ -2,7 +2,7 @@
 -- call that writes it, and what this leaves in its two buffers.
 -- Assumes nothing.
 use Rattle.std.specs.Prelude.{ℕ, zero, suc, ◌+◌, ◌-◌, ◌*◌, Bool, false, cond, ◌&&◌, ◌||◌, List, [], ◌∷◌, ◌++◌, map, length, take, drop, eqb, leb}
-use Rattle.judgement.specs.Scan.{one, count_of, list_of, chosen}
+use Rattle.judgement.specs.Scan.{one, count_of, list_of}
 use Rattle.judgement.specs.declared.Finding.{Finding}
 use Rattle.judgement.specs.declared.Written.{Written}
 use Rattle.judgement.specs.declared.Kind.{Kind}
@@ -38,6 +38,11 @@ kept_after cites t (suc n) j = kept_after cites t n j || kept_after cites t n (t
 -- step k is kept
 abbrev pub kept : List ℕ → List ℕ → ℕ → Bool
 kept s r k = kept_after (cites s r) (steps r) (steps r) k
+
+-- those of 1 to n that pass the test, in order
+unfoldable pub chosen : (ℕ → Bool) → ℕ → List ℕ
+chosen f zero = []
+chosen f (suc n) = chosen f n ++ cond (f (suc n)) (suc n ∷ []) []
 
 -- the numbers of the kept steps
 abbrev pub kept_steps : List ℕ → List ℕ → List ℕ

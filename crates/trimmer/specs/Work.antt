@@ -2,7 +2,7 @@
 -- the trimmed record part by part.
 -- Assumes nothing.
 use Rattle.std.specs.Prelude.{ℕ, ◌+◌, ◌-◌, ◌*◌, ◌^◌, ◌≤◌, ◌<◌, ◌≡◌, Bool, cond, List, [], ◌++◌, map, length, get_or, set, take, drop, eqb}
-use Rattle.judgement.specs.Scan.{one, count_of, list_of, chosen}
+use Rattle.judgement.specs.Scan.{one, count_of, list_of}
 use Rattle.judgement.specs.Number.{number_at}
 use Rattle.judgement.specs.declared.Kind.{Kind}
 use Rattle.judgement.specs.declared.Kind.TheVariants.{Copy, Cost, IndependentSet, Resolvent, WeightedSet, Unknown}
@@ -10,7 +10,7 @@ use Rattle.judgement.specs.Record.{steps, step_pairs_at}
 use Rattle.judgement.specs.Step.{kind_of, literal_count, cited}
 use Rattle.judgement.specs.Writer.{bytes_of, pairs_of, joined}
 use Rattle.judgement.specs.Facts.{Among, BeforeClose}
-use Rattle.trimmer.specs.Trim.{cites, kept_after, kept, new_body, marks_of}
+use Rattle.trimmer.specs.Trim.{cites, kept_after, kept, chosen, new_body, marks_of}
 
 -- ---- what is known
 

@@ -5,7 +5,8 @@ use Prim.Native.Nat.{ℕ}
 use mathlib.Core.Path.{◌≡◌, refl}
 use mathlib.Core.List.{List, [], ◌∷◌, ◌++◌}
 use lib.ListN.{replicate}
-use Rattle.judgement.specs.Scan.{all_of, any_of, sum_of, list_of, chosen}
+use Rattle.judgement.specs.Scan.{all_of, any_of, sum_of}
+use Rattle.turns.specs.Listed.{list_of, chosen}
 use Rattle.judgement.specs.Meaning.{literal_true}
 use Rattle.judgement.specs.Number.{number_at}
 use Rattle.judgement.specs.Pairs.{body, body_start, pair_finding, pairs_finding}

@@ -16,10 +16,11 @@ use Rattle.judgement.specs.Facts.{Among, ValidSheet}
 use Rattle.judgement.specs.Literals.{count, mentions, variable}
 use Rattle.judgement.specs.Meaning.{is_positive}
 use Rattle.judgement.specs.Number.{number_at}
-use Rattle.judgement.specs.Scan.{any_of, chosen, sum_of}
+use Rattle.judgement.specs.Scan.{any_of, sum_of}
+use Rattle.turns.specs.Listed.{chosen}
 use Rattle.judgement.specs.Sheet.{clause, clauses, variables}
 use Rattle.judgement.specs.Writer.{bytes_of}
-use Rattle.judgement.proofs.Laws.Chosen.{count_at_most, length_chosen}
+use Rattle.turns.proofs.Chosen.{count_at_most, length_chosen}
 use Rattle.judgement.proofs.Laws.Patch.{kept_same}
 use Rattle.judgement.proofs.Laws.Scan.{any_at, any_some, false_i, sum_bound, which}
 use Rattle.turns.specs.Index.{FilledTo, Lists, PlacedTo, Raises, SizedTo, Sizes, Takes, entry, filed, index_end, mentioned_to, raised, start_of, uses}

@@ -20,19 +20,21 @@ use Rattle.judgement.specs.Meaning.{Assignment, Model, Satisfies}
 use Rattle.judgement.specs.Number.{number_at}
 use Rattle.judgement.specs.Pairs.{body}
 use Rattle.judgement.specs.Record.{assignment_size, satisfied}
-use Rattle.judgement.specs.Scan.{count_of, list_of, one}
+use Rattle.judgement.specs.Scan.{count_of, one}
+use Rattle.turns.specs.Listed.{list_of}
 use Rattle.judgement.specs.Sheet.{clause, clauses, problem_of, variables}
 use Rattle.judgement.specs.Writer.{joined, numbers_of}
 use Rattle.judgement.specs.declared.Finding.TheVariants.{Fine}
 use Rattle.judgement.proofs.Complete.Bytes.{length_numbers}
 use Rattle.judgement.proofs.Complete.Tables.{file_body, file_pairs, length_file}
 use Rattle.judgement.proofs.Laws.Buffer.{length_over}
-use Rattle.judgement.proofs.Laws.Chosen.{chosen_at, count_grows, count_rises, length_chosen}
+use Rattle.turns.proofs.Chosen.{chosen_at, count_grows, count_rises, length_chosen}
 use Rattle.judgement.proofs.Laws.Cost.{within}
 use Rattle.judgement.proofs.Laws.Membership.{in_mentions, mentions_in}
 use Rattle.judgement.proofs.Laws.Models.{satisfied_satisfies, satisfies_satisfied}
 use Rattle.judgement.proofs.Laws.Patch.{at_numbers}
-use Rattle.judgement.proofs.Laws.Scan.{count_same, last_or, length_list, list_at, sum_zero, which}
+use Rattle.judgement.proofs.Laws.Scan.{count_same, last_or, sum_zero, which}
+use Rattle.turns.proofs.Listed.{length_list, list_at}
 use Rattle.turns.specs.Index.{uses}
 use Rattle.turns.specs.Promises.{AllTurns, Enough, Turning, after, named, named_count, times_in}
 use Rattle.turns.specs.Turning.{Lent, broken_total, counts_of, index_of, index_size, left_in, mentioning, switched, true_in, turn, turned, value_in}

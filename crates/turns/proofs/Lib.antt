@@ -1,3 +1,5 @@
+pub mod Chosen
+pub mod Listed
 pub mod Lists
 pub mod Sizing
 pub mod Filling

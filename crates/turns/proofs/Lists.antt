@@ -11,8 +11,8 @@ use borrow.Author.Tests.{eqb-false, eqb-true}
 use lib.Dec.{eqb}
 use lib.ListN.{get_or-append, get_or, length, length-append}
 use lib.Seq.{get_or_at}
-use Rattle.judgement.specs.Scan.{chosen}
-use Rattle.judgement.proofs.Laws.Chosen.{chosen_left, chosen_taken, count_grows, count_rises, length_chosen}
+use Rattle.turns.specs.Listed.{chosen}
+use Rattle.turns.proofs.Chosen.{chosen_left, chosen_taken, count_grows, count_rises, length_chosen}
 use Rattle.judgement.proofs.Laws.Scan.{last_or, which}
 
 -- the same number, or another

@@ -10,7 +10,8 @@ use lib.Dec.{eqb}
 use lib.ListN.{length, length-append}
 use Rattle.judgement.specs.Facts.{Among, LiteralList, ValidSheet}
 use Rattle.judgement.specs.Literals.{count, mentions, variable}
-use Rattle.judgement.specs.Scan.{any_of, chosen, one, sum_of}
+use Rattle.judgement.specs.Scan.{any_of, one, sum_of}
+use Rattle.turns.specs.Listed.{chosen}
 use Rattle.judgement.specs.Sheet.{clause, clauses, variables}
 use Rattle.judgement.proofs.Laws.Scan.{any_some, false_i, sum_apart, sum_split, sum_zero}
 use Rattle.turns.specs.Index.{index_end, mentioned_to, start_of}

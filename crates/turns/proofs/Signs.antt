@@ -14,13 +14,14 @@ use Rattle.judgement.specs.Facts.{ValidSheet}
 use Rattle.judgement.specs.Literals.{holds, mentions}
 use Rattle.judgement.specs.Meaning.{positive}
 use Rattle.judgement.specs.Number.{number_at}
-use Rattle.judgement.specs.Scan.{list_of, sum_of}
+use Rattle.judgement.specs.Scan.{sum_of}
+use Rattle.turns.specs.Listed.{list_of}
 use Rattle.judgement.specs.Sheet.{clause, clauses, variables}
 use Rattle.judgement.specs.Writer.{bytes_of, joined, numbers_of, pairs_of}
 use Rattle.judgement.proofs.Complete.Bytes.{length_numbers}
 use Rattle.judgement.proofs.Complete.Tables.{length_pairs}
 use Rattle.judgement.proofs.Laws.Patch.{at_numbers, kept_same, length_patch, number_behind, patch_behind, patch_kept, patch_next, patch_none, patch_other, patch_same}
-use Rattle.judgement.proofs.Laws.Scan.{length_list, list_at, list_same}
+use Rattle.turns.proofs.Listed.{length_list, list_at, list_same}
 use Rattle.judgement.proofs.Laws.Stored.{numbers_end}
 use Rattle.judgement.proofs.Laws.Table.{joined_end}
 use Rattle.turns.specs.Index.{FilledTo, entry, index_end, start_of, uses}

@@ -17,12 +17,14 @@ use Rattle.judgement.specs.Judgement.{passes}
 use Rattle.judgement.specs.Literals.{mentions}
 use Rattle.judgement.specs.Meaning.{Assignment}
 use Rattle.judgement.specs.Number.{number_at}
-use Rattle.judgement.specs.Scan.{list_of, sum_of}
+use Rattle.judgement.specs.Scan.{sum_of}
+use Rattle.turns.specs.Listed.{list_of}
 use Rattle.judgement.specs.Sheet.{clause, clauses, variables}
 use Rattle.judgement.specs.Writer.{bytes_of, numbers_of}
 use Rattle.judgement.proofs.Complete.Bytes.{length_bytes, length_numbers}
 use Rattle.judgement.proofs.Laws.Patch.{at_append, at_left, at_nothing, at_number, at_numbers, at_over, at_right, kept_same, length_patch, patch_kept, patch_other, patch_same}
-use Rattle.judgement.proofs.Laws.Scan.{length_list, sum_apart, sum_bound, sum_last, sum_part, sum_same}
+use Rattle.judgement.proofs.Laws.Scan.{sum_apart, sum_bound, sum_last, sum_part, sum_same}
+use Rattle.turns.proofs.Listed.{length_list}
 use Rattle.judgement.proofs.Laws.Stored.{numbers_end}
 use Rattle.turns.specs.Counts.{Counted, CountedFor, Steps, at_zero, goes_up, stepped}
 use Rattle.turns.specs.Index.{FilledTo, entry, start_of, uses}

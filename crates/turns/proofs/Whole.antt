@@ -6,13 +6,15 @@ use mathlib.Core.List.{List, ◌++◌}
 use native.Mathlib.Omega.{arith}
 use lib.ListN.{length, length-append}
 use Rattle.judgement.specs.Buffer.{At, Kept, over}
-use Rattle.judgement.specs.Scan.{list_of, sum_of}
+use Rattle.judgement.specs.Scan.{sum_of}
+use Rattle.turns.specs.Listed.{list_of}
 use Rattle.judgement.specs.Sheet.{variables}
 use Rattle.judgement.specs.Writer.{bytes_of, file_of, joined, numbers_of, pairs_of}
 use Rattle.judgement.proofs.Complete.Bytes.{length_numbers}
 use Rattle.judgement.proofs.Complete.Tables.{length_pairs}
 use Rattle.judgement.proofs.Laws.Patch.{at_append, at_nothing, at_over}
-use Rattle.judgement.proofs.Laws.Scan.{length_list, sum_same}
+use Rattle.judgement.proofs.Laws.Scan.{sum_same}
+use Rattle.turns.proofs.Listed.{length_list}
 use Rattle.judgement.proofs.Laws.Table.{joined_end, pairs_end}
 use Rattle.turns.specs.Index.{Lists, index_end, start_of}
 use Rattle.turns.specs.Turning.{index_of, mentioning}

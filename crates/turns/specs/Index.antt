@@ -1,7 +1,8 @@
 -- The index while it is built: lists that are sized, placed and filled. Until the turns are done an entry has a sign.
 -- Assumes nothing.
 use Rattle.std.specs.Prelude.{ℕ, ◌+◌, ◌-◌, ◌*◌, ◌^◌, ◌≤◌, ◌<◌, cond, List, ◌++◌, map, length}
-use Rattle.judgement.specs.Scan.{sum_of, chosen}
+use Rattle.judgement.specs.Scan.{sum_of}
+use Rattle.turns.specs.Listed.{chosen}
 use Rattle.judgement.specs.Meaning.{positive}
 use Rattle.judgement.specs.Number.{number_at}
 use Rattle.judgement.specs.Literals.{holds, mentions}

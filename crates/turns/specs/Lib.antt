@@ -1,3 +1,4 @@
+pub mod Listed
 pub mod Turning
 pub mod Promises
 pub mod Index

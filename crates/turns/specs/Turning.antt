@@ -3,14 +3,16 @@
 -- are those of the assignment that is left.
 -- Assumes nothing.
 use Rattle.std.specs.Prelude.{ℕ, ◌+◌, ◌-◌, ◌*◌, ◌/◌, ◌%◌, ◌^◌, Bool, cond, ◌&&◌, List, [], ◌∷◌, length, get_or, set, eqb, leb}
-use Rattle.judgement.specs.Scan.{sum_of, count_of, list_of, chosen}
+use Rattle.judgement.specs.Scan.{sum_of, count_of}
+use Rattle.turns.specs.Listed.{list_of, chosen}
 use Rattle.judgement.specs.Meaning.{Assignment, literal_true}
 use Rattle.judgement.specs.declared.Finding.{Finding}
 use Rattle.judgement.specs.declared.Finding.TheVariants.{Fine, Fault}
 use Rattle.judgement.specs.Finding.{need, ◌then◌, over_all}
 use Rattle.judgement.specs.Literals.{count, code, mentions}
 use Rattle.judgement.specs.Sheet.{variables, clauses, clause, alone_finding}
-use Rattle.judgement.specs.Record.{assignment_size, bit, value_at}
+use Rattle.judgement.specs.Record.{assignment_size, bit}
+use Rattle.turns.specs.Listed.{value_at}
 use Rattle.judgement.specs.Writer.{numbers_of, file_of}
 use Rattle.judgement.specs.Buffer.{left_by}
 use Rattle.turns.specs.declared.Turned.{Turned}

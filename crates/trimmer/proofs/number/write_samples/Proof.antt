@@ -8,7 +8,7 @@ use lib.ListN.{length}
 use Rattle.judgement.specs.Number.{number_at}
 use Rattle.judgement.specs.Scan.{count_of}
 use Rattle.trimmer.specs.Work.{marked}
-use Rattle.judgement.proofs.Laws.Chosen.{count_at_most}
+use Rattle.trimmer.proofs.Chosen.{count_at_most}
 use Rattle.trimmer.proofs.Numbering.{no_count, sample_room, next_product, samples_turn, table_length, sampled_all}
 use Rattle.trimmer.proofs.number.write_samples.Statement.{statement}
 use Rattle.trimmer.proofs.number.write_samples.Tie as tie

@@ -32,21 +32,21 @@ add-size-2 c =
     let a = c.before.before.before.before.before.before.args in
     let h = c.before.before.before.before.before.before.requires in
     let n = counted_all a.s.now a.r.now a.table a.marks.now h c.before.count-marks.ensures in
-    omega (arith, n, c.bodies_size.ensures, whole_size a.s.now a.r.now a.table a.marks.now h, whole_short a.s.now a.r.now a.table a.marks.now h)
+    omega (arith, n, c.bodies-size.ensures, whole_size a.s.now a.r.now a.table a.marks.now h, whole_short a.s.now a.r.now a.table a.marks.now h)
 
 returns : tie.Need-returns
 returns c =
     let a = c.before.before.before.before.before.before.before.args in
     let h = c.before.before.before.before.before.before.before.requires in
     let n = counted_all a.s.now a.r.now a.table a.marks.now h c.before.before.count-marks.ensures in
-    too_short a.s.now a.r.now a.out.now (omega (arith, n, c.before.bodies_size.ensures, whole_size a.s.now a.r.now a.table a.marks.now h))
+    too_short a.s.now a.r.now a.out.now (omega (arith, n, c.before.bodies-size.ensures, whole_size a.s.now a.r.now a.table a.marks.now h))
 
 write-all-requires : tie.Need-write-all-requires
 write-all-requires c κs =
     let a = c.before.before.before.before.before.before.before.before.args in
     let h = c.before.before.before.before.before.before.before.before.requires in
     let n = counted_all a.s.now a.r.now a.table a.marks.now h c.before.before.before.count-marks.ensures in
-    (h, n, omega (arith, n, c.before.before.bodies_size.ensures, whole_size a.s.now a.r.now a.table a.marks.now h))
+    (h, n, omega (arith, n, c.before.before.bodies-size.ensures, whole_size a.s.now a.r.now a.table a.marks.now h))
 
 same_length : tie.Need-same-length
 same_length c = search rules
@@ -57,7 +57,7 @@ returns-2 c =
     let h = c.before.before.before.before.before.before.before.before.before.before.before.requires in
     let n = counted_all a.s.now a.r.now a.table a.marks.now h c.before.before.before.before.before.before.count-marks.ensures in
     let z = whole_size a.s.now a.r.now a.table a.marks.now h in
-    long_enough a.s.now a.r.now a.out.now _ (a.table + 8 * c.before.before.before.before.before.before.count-marks.result + c.before.before.before.before.before.bodies_size.result) (omega (arith, n, c.before.before.before.before.before.bodies_size.ensures, z)) (omega (arith, n, c.before.before.before.before.before.bodies_size.ensures, z)) c.before.before.write-all.ensures
+    long_enough a.s.now a.r.now a.out.now _ (a.table + 8 * c.before.before.before.before.before.before.count-marks.result + c.before.before.before.before.before.bodies-size.result) (omega (arith, n, c.before.before.before.before.before.bodies-size.ensures, z)) (omega (arith, n, c.before.before.before.before.before.bodies-size.ensures, z)) c.before.before.write-all.ensures
 
 pub write-if-room-spec : {M : Type 1} → statement M
 write-if-room-spec =

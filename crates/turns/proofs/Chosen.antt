@@ -8,7 +8,8 @@ use mathlib.Core.Logic.{◌⊎◌, inl, inr}
 use native.Mathlib.Omega.{arith}
 use lib.ListN.{length, get_or, length-append, get_or-append}
 use lib.Seq.{get_or_at}
-use Rattle.judgement.specs.Scan.{sum_of, count_of, list_of, chosen}
+use Rattle.judgement.specs.Scan.{sum_of, count_of}
+use Rattle.turns.specs.Listed.{list_of, chosen}
 use Rattle.judgement.specs.Writer.{joined}
 use Rattle.judgement.specs.Facts.{Among}
 use Rattle.judgement.proofs.Laws.Scan.{which, last_or, count_join}
