@@ -1,4 +1,6 @@
 // The calls with plain C types: a file is a pointer and a length, and the answer goes into a lent array.
+#![tactic(auto)]
+
 ghost use Rattle.std.specs.Prelude.{◌≡◌, cond, length};
 ghost use Rattle.judgement.specs.Judgement.{judgement, shown_part};
 ghost use Rattle.judgement.specs.Place.{Inside};

@@ -1,4 +1,6 @@
 // The line that is printed for an answer, put at the beginning of a lent buffer. What stands behind it stays.
+#![tactic(auto)]
+
 ghost use Rattle.std.specs.Prelude.{◌≡◌, ◌++◌, ◌+◌, ◌≤◌, length, take};
 ghost use Rattle.io.specs.Counts.{IsPrefixLen};
 ghost use Rattle.judgement.specs.Buffer.{over};

@@ -1,5 +1,7 @@
 // Judges the files `sheet` and `record` of the folder that it is run in, and prints the answer's line, or why a file could
 // not be judged.
+#![tactic(auto)]
+
 ghost use Rattle.print.specs.Reading.{Read};
 
 use libc::STDOUT_FILENO;

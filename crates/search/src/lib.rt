@@ -1,4 +1,6 @@
 // A plan from the sheet itself: a search with a budget.
+#![tactic(auto)]
+
 mod choose;
 mod clause;
 mod count;
@@ -16,7 +18,7 @@ use judgement::{Finding, NONE};
 const MOST_SEARCHED: u32 = 64;
 
 // A node: the variables settled as true and as false. A set of variables is a number: variable v is bit v - 1.
-#[derive(Drop)]
+#[derive(Clone, Copy)]
 pub struct Node {
     pub trues: u64,
     pub falses: u64,
@@ -25,7 +27,7 @@ pub struct Node {
 // How far the search has come. `cost` is the best plan's and `plan` its true variables, "none" and 0 before there is one;
 // `floor` is the least cost of a node with a branch that stays untried since the budget was spent, "none" where there is none;
 // `left` is what is left of the budget; `stopped`: there is such a branch.
-#[derive(Drop)]
+#[derive(Clone, Copy)]
 pub struct Progress {
     pub cost: u64,
     pub plan: u64,
@@ -35,7 +37,7 @@ pub struct Progress {
 }
 
 // The answer to a sheet and a budget.
-#[derive(Drop)]
+#[derive(Clone, Copy)]
 pub struct Found {
     pub number: u32,
     pub place: u32,
@@ -47,7 +49,7 @@ pub struct Found {
 }
 
 // n, m and the loss.
-#[derive(Drop)]
+#[derive(Clone, Copy)]
 pub struct Size {
     pub variables: u32,
     pub clauses: u32,
@@ -56,7 +58,7 @@ pub struct Size {
 
 // Forcing under way: the node, the variables that are settled and whose clauses are still to be looked at, and whether a clause
 // was found false.
-#[derive(Drop)]
+#[derive(Clone, Copy)]
 pub struct Work {
     pub trues: u64,
     pub falses: u64,
@@ -65,7 +67,7 @@ pub struct Work {
 }
 
 // What forcing came to: a node and its cost, or nothing, where the node is left.
-#[derive(Drop)]
+#[derive(Clone, Copy)]
 pub struct Settled {
     pub trues: u64,
     pub falses: u64,

@@ -1,4 +1,6 @@
 // Trimming a record: its last step, and each step that a kept one cites, written as a record of their own into a lent buffer.
+#![tactic(auto)]
+
 mod marks;
 mod number;
 mod put;

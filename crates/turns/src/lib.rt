@@ -1,4 +1,6 @@
 // Turning variables: a keeper tries paddles one by one, and sees how many clauses are broken.
+#![tactic(auto)]
+
 mod counts;
 mod index;
 mod place;
@@ -17,7 +19,7 @@ use judgement::Finding;
 
 // The answer: `total` is how many clauses are broken. A refusal has total 0. With 30 the place is in the list of turns, which may be
 // longer than any other thing that has places.
-#[derive(Drop)]
+#[derive(Clone, Copy)]
 pub struct Turned {
     pub number: u32,
     pub place: usize,

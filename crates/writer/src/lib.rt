@@ -1,4 +1,6 @@
 // One way to write a sheet: its clauses sorted by their codes, each once, into a lent buffer.
+#![tactic(auto)]
+
 mod put;
 mod read;
 mod sort;
@@ -13,7 +15,7 @@ ghost use Rattle.writer.specs.Promises.{OneOrder, WrittenWhen, OneWay};
 use judgement::{Finding, Written};
 
 // How one list of codes stands to another.
-#[derive(Drop)]
+#[derive(Clone, Copy)]
 enum Comparison {
     Before,
     Same,
@@ -22,7 +24,7 @@ enum Comparison {
 
 // What a merge does with the next words of its two lists: which it takes, and how far it goes on in the first and in the
 // second.
-#[derive(Drop)]
+#[derive(Clone, Copy)]
 struct Meeting {
     taken: u64,
     first: usize,

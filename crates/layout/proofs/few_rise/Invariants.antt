@@ -1,0 +1,14 @@
+-- `layout::few_rise` meets its contract. The invariant: i literals after the first rise. The measure is the number of those
+-- left.
+-- Assumes nothing.
+use Prim.Native.Nat.{◌-◌, ◌≤◌}
+use mathlib.Core.Path.{◌≡◌}
+use mathlib.Core.Bool.{true}
+use Rattle.layout.specs.Rise.{rises_from}
+use Rattle.layout.proofs.few_rise.Given as goal
+
+abbrev pub invariant-loop-i : goal.invariant-loop-i
+invariant-loop-i l = (l.i ≤ l.k) × (rises_from l.part 0 l.i ≡ true)
+
+abbrev pub decreases-loop-i : goal.decreases-loop-i
+decreases-loop-i l = l.k - l.i
