@@ -1,0 +1,10 @@
+-- `writer::read::u32_at` meets its contract: the two halves make the number by `number_split`.
+-- Assumes nothing.
+use native.Mathlib.Omega.{arith}
+use Rattle.layout.proofs.Number.{number_split}
+use Rattle.writer.proofs.read.u32_at.Goals as goal
+
+pub returns : goal.returns
+returns c =
+    let a = c.args in
+    omega (arith, number_split a.part.now a.at 2 2)
