@@ -3,11 +3,7 @@
 use borrow.Author.Rules.{rules}
 use lib.Count.{ones-le}
 use Rattle.claims.proofs.Count.{byte_ones}
-use Rattle.claims.proofs.ones.Statement.{statement}
-use Rattle.claims.proofs.ones.Tie as tie
+use Rattle.claims.proofs.ones.Goals as goal
 
-returns : tie.Need-returns
+pub returns : goal.returns
 returns c = (byte_ones c.args.byte (search rules), ones-le 8 c.args.byte (search rules))
-
-pub ones-spec : {M : Type 1} → statement M
-ones-spec = tie.close (tie.spec returns)
