@@ -1,0 +1,14 @@
+-- `checker::cost::price_of` meets its contract. The invariant: the sum is that of i literals, each of which adds less than 2 ^ 32.
+-- The measure is the number of literals left.
+-- Assumes nothing.
+use Rattle.std.proofs.Common.{◌≡◌, ◌-◌, ◌*◌, ◌^◌, ◌≤◌}
+use Rattle.judgement.specs.Scan.{sum_of}
+use Rattle.judgement.specs.Literals.{code}
+use Rattle.checker.specs.Prices.{price_at}
+use Rattle.checker.proofs.cost.price_of.Given as goal
+
+abbrev pub invariant-loop-i : goal.invariant-loop-i
+invariant-loop-i l = (l.i ≤ l.q) × (l.sum ≡ sum_of (λ h. price_at l.prices (code l.part h)) l.i) × (l.sum ≤ 2 ^ 32 * l.i)
+
+abbrev pub decreases-loop-i : goal.decreases-loop-i
+decreases-loop-i l = l.q - l.i
