@@ -7,7 +7,7 @@ use mathlib.Core.Logic.{◌⊎◌, inl, inr}
 use native.Mathlib.Omega.{arith}
 use lib.Dec.{eqb, leb}
 use Rattle.judgement.specs.Scan.{all_of, any_of}
-use Rattle.judgement.specs.Meaning.{positive, negative, variable_of, Literals, Problem, cost}
+use Rattle.judgement.specs.Meaning.{positive, negative, variable_of, Literals, Problem}
 use Rattle.judgement.specs.Facts.{Among, Alike}
 use Rattle.judgement.proofs.Laws.Scan.{which}
 use Rattle.judgement.proofs.Laws.Cost.{same_cost}

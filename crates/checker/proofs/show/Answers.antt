@@ -7,10 +7,12 @@ pub returns-then-p : goal.returns-then-p
 returns-then-p c =
     let a = c.args in
     let p = c.shown_part-p.ensures in
-    of_sheet a.sheet.now a.«record».now a.step a.sheet.ref_ptr a.«record».ptr p.part p.inside c.if-p.true c.part_of.ensures.bytes c.part_of.ensures.place
+    let r = of_sheet a.sheet.now a.«record».now a.step a.sheet.ref_ptr a.«record».ref_ptr p.part p.inside c.if-p.true c.part_of.ensures.bytes c.part_of.ensures.place in
+    record { bytes = r.0; place = r.1 }
 
 pub returns : goal.returns
 returns c =
     let a = c.args in
     let p = c.shown_part-p.ensures in
-    of_record a.sheet.now a.«record».now a.step a.sheet.ref_ptr a.«record».ptr p.part p.inside c.if-p.false c.part_of-2.ensures.bytes c.part_of-2.ensures.place
+    let r = of_record a.sheet.now a.«record».now a.step a.sheet.ref_ptr a.«record».ref_ptr p.part p.inside c.if-p.false c.part_of-2.ensures.bytes c.part_of-2.ensures.place in
+    record { bytes = r.0; place = r.1 }

@@ -2,7 +2,6 @@
 -- Assumes nothing.
 use mathlib.Core.Path.{sym, ◌∙◌}
 use native.Mathlib.Omega.{arith}
-use borrow.Author.Tests.{not-true, not-false}
 use Rattle.search.proofs.Answers.{finding_fault, finding_many, finding_fine}
 use Rattle.search.proofs.search_finding.Goals as goal
 
@@ -10,18 +9,18 @@ use Rattle.search.proofs.search_finding.Goals as goal
 pub returns-then-not-is_fine : goal.returns-then-not-is_fine
 returns-then-not-is_fine c =
     let f = c.alone_finding-f in
-    finding_fault c.args.sheet.now f.result f.ensures (sym c.is_fine.ensures ∙ not-true c.is_fine.result c.if-not-is_fine.true-raw)
+    finding_fault c.args.sheet.now f.result f.ensures (sym c.is_fine.ensures ∙ c.if-not-is_fine.true)
 
 -- src/lib.rt:80:9
 pub returns-then-variable_count-gt-MOST_SEARCHED : goal.returns-then-variable_count-gt-MOST_SEARCHED
 returns-then-variable_count-gt-MOST_SEARCHED c =
     let f = c.alone_finding-f in
     let n = c.variable_count.ensures.0 in
-    finding_many c.args.sheet.now f.result f.ensures (sym c.is_fine.ensures ∙ not-false c.is_fine.result c.if-not-is_fine.false-raw) (omega (arith, n, c.if-variable_count-gt-MOST_SEARCHED.true))
+    finding_many c.args.sheet.now f.result f.ensures (sym c.is_fine.ensures ∙ c.if-not-is_fine.false) (omega (arith, n, c.if-variable_count-gt-MOST_SEARCHED.true))
 
 -- src/lib.rt:72:1
 pub returns : goal.returns
 returns c =
     let f = c.alone_finding-f in
     let n = c.variable_count.ensures.0 in
-    finding_fine c.args.sheet.now f.result f.ensures (sym c.is_fine.ensures ∙ not-false c.is_fine.result c.if-not-is_fine.false-raw) (omega (arith, n, c.if-variable_count-gt-MOST_SEARCHED.false))
+    finding_fine c.args.sheet.now f.result f.ensures (sym c.is_fine.ensures ∙ c.if-not-is_fine.false) (omega (arith, n, c.if-variable_count-gt-MOST_SEARCHED.false))

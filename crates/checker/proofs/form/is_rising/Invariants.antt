@@ -6,6 +6,7 @@ use Rattle.judgement.specs.Scan.{all_of}
 use Rattle.judgement.specs.Literals.{rises_at}
 use Rattle.judgement.specs.Sheet.{clauses}
 use Rattle.layout.proofs.Literals.{previous}
+use Rattle.checker.proofs.Rising.{numbered}
 use Rattle.checker.proofs.form.is_rising.Given as goal
 
 abbrev pub invariant-loop-j : goal.invariant-loop-j

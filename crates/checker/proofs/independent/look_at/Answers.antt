@@ -29,4 +29,4 @@ returns c =
     let l = c.loop-i in
     let paid = c.wrapping_sub_u64-paid in
     let end : l.i ≡ count c.args.clause.now = omega arith in
-    record { stale = (l.invariant.1); tells = (λ s D used bytes free list m. rw c.both.ensures (looked_told (l.invariant.2 s D used bytes free list m) bytes end paid.type-inv paid.ensures)) }
+    record { stale = (l.invariant.1); tells = (λ s D used bytes free list m. rw c.both.ensures (looked_told (l.invariant.2 s D used bytes free list m) bytes end paid.type_inv paid.ensures.value)) }

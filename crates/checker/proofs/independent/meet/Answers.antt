@@ -20,7 +20,7 @@ within c w = omega (arith, w.1)
 
 pub overflow_add-marks : goal.overflow_add-marks
 overflow_add-marks c =
-    record { fits = new-fits c.args.t c.args.c c.wrapping_sub_u64-above.result (omega arith) c.requires.1.1 c.wrapping_sub_u64-above.type-inv c.requires.2 }
+    record { fits = new-fits c.args.t c.args.c c.wrapping_sub_u64-above.result (omega arith) c.requires.1.1 c.wrapping_sub_u64-above.type_inv c.requires.2 }
 
 pub returns : goal.returns
 returns c =
@@ -30,6 +30,6 @@ returns c =
     let above = c.wrapping_sub_u64-above in
     let d = variable_of x - 1 in
     let z = t + x + 2 * (above.result / 2 ^ 63) in
-    let most = new-most t x above.result {x = z} refl c.requires.1.1 above.type-inv in record { stale = (stale_marked marks d (omega arith) (stale_set marks (t + 4096) d z (within x c.requires.1) most c.requires.0)); tells = (λ D uses m.
+    let most = new-most t x above.result {x = z} refl c.requires.1.1 above.type_inv in record { stale = (stale_marked marks d (omega arith) (stale_set marks (t + 4096) d z (within x c.requires.1) most c.requires.0)); tells = (λ D uses m.
           told_marked marks d (omega arith)
-          (met_told D uses t marks x c.requires.1 m c.requires.2 above.type-inv above.ensures c.wrapping_sub_u64-settled.type-inv c.wrapping_sub_u64-settled.ensures)) }
+          (met_told D uses t marks x c.requires.1 m c.requires.2 above.type_inv above.ensures.value c.wrapping_sub_u64-settled.type_inv c.wrapping_sub_u64-settled.ensures.value)) }

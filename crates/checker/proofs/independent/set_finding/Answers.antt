@@ -65,7 +65,7 @@ returns-then-not-cited c =
     let l = c.loop-j in
     let s = c.args.s.now in
     let b = c.args.b.now in
-    let bytes : IsBytes s = λ c. (c.type_inv.s c).ranges in
+    let bytes : IsBytes s = λ i. (c.type_inv.s i).fits in
     let stop =
     next_stop s b c.requires.0 bytes c.whole_tail-tail.ensures c.clause_pairs_at-pairs.ensures.0
     (omega (arith, c)) c.cited_clause-clause.ensures l.invariant.1 c.requires.2.unsettled c.look_at-cited.ensures.tells c.if-not-cited.true c.clause_finding.ensures in

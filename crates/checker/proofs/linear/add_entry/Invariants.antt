@@ -10,8 +10,8 @@ use Rattle.checker.proofs.linear.add_entry.Given as goal
 
 abbrev pub invariant-loop-i : goal.invariant-loop-i
 invariant-loop-i l =
-    (l.i ≤ l.q) × (nat_abs (to_z w64 l.sum) ≤ 65536 + 131072 * l.i)
-    × ((D : List ℕ) → Weighing (variables l.s) D (full_of l.s l.tail) (remainder l.s l.tail l.j) l.t l.initial.marks l.initial.rest → Added D l.s l.tail l.j l.t l.clause l.y l.marks l.rest (to_z w64 l.sum) l.i)
+    (l.i ≤ l.q) × (nat_abs l.sum ≤ 65536 + 131072 * l.i)
+    × ((D : List ℕ) → Weighing (variables l.s) D (full_of l.s l.tail) (remainder l.s l.tail l.j) l.t l.initial.marks l.initial.rest → Added D l.s l.tail l.j l.t l.clause l.y l.marks l.rest l.sum l.i)
 
 abbrev pub decreases-loop-i : goal.decreases-loop-i
 decreases-loop-i l = l.q - l.i

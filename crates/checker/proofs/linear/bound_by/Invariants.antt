@@ -9,8 +9,8 @@ use Rattle.checker.proofs.linear.bound_by.Given as goal
 
 abbrev pub invariant-loop-j : goal.invariant-loop-j
 invariant-loop-j l =
-    (l.j ≤ l.count) × (nat_abs (to_z w64 l.sum) ≤ 2 ^ 58 + 2 ^ 28 * l.j)
-    × Weighing (variables l.s) l.list (full_of l.s l.tail) (remainder l.s l.tail l.j) l.t l.marks l.rest × (to_z w64 l.sum ≡ total_of l.s l.list l.tail l.j)
+    (l.j ≤ l.count) × (nat_abs l.sum ≤ 2 ^ 58 + 2 ^ 28 * l.j)
+    × Weighing (variables l.s) l.list (full_of l.s l.tail) (remainder l.s l.tail l.j) l.t l.marks l.rest × (l.sum ≡ total_of l.s l.list l.tail l.j)
 
 abbrev pub decreases-loop-j : goal.decreases-loop-j
 decreases-loop-j l = l.count - l.j

@@ -29,7 +29,7 @@ loop-i-preserved c =
     let part = c.args.part.now in
     let e = c.code_in_form-c.ensures in
     let low = price_next c.args.prices.now part l.i c.requires.4 (omega arith) e.0 in
-    let begin = held c.far-begin.result c.far-begin.type-inv ∙ c.far-begin.ensures in (
+    let begin = held c.far-begin.result c.far-begin.type_inv ∙ c.far-begin.ensures in (
       omega arith,
       settling_more part l.i c.args.t l.marks l.rest c.requires.3 (omega arith) e.0 e.1 begin l.invariant.1,
       sum_more (λ h. price_at c.args.prices.now (code part h)) l.i l.invariant.2 (rw e.0),

@@ -1,6 +1,6 @@
 -- `checker::signed::one_of` meets its contract.
 -- Assumes nothing.
-use Rattle.std.proofs.Common.{◌≡◌, ℕ, zero, suc, ◌<◌, cond, eqb, ◌∷◌, get_or, ℤ, pos, arith}
+use Rattle.std.proofs.Common.{◌≡◌, ℕ, zero, suc, ◌<◌, cond, eqb, [], ◌∷◌, get_or, ℤ, pos, arith}
 use Rattle.checker.proofs.Bits.{Held, again, held}
 use Rattle.checker.proofs.signed.one_of.Goals as goal
 

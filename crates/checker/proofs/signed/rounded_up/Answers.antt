@@ -24,12 +24,6 @@ overflow_add-result c =
     let e = positive_total a.total (omega (arith, p.0)) c.if-total-le0.false in
     rw (sum_read a.total (nat_abs a.total) a.d e p.0 p.1 p.2) (small (pos (nat_abs a.total + (a.d - 1))) (omega (arith, p)))
 
--- UNMATCHED nonzero-div-result
--- div-result c =
---     let a = c.before.args in
---     let p = c.before.requires in
---     let e = positive_total a.total (omega (arith, p.0)) c.if1.false in
---     (p.1, rw (quotient_read a.total (nat_abs a.total) a.d e p.0 p.1 p.2) (small (pos ((nat_abs a.total + (a.d - 1)) / a.d)) (quotient_small (nat_abs a.total) a.d p.0 p.2)))
 
 pub overflow_cast-result : goal.overflow_cast-result
 overflow_cast-result c =

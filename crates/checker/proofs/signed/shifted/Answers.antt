@@ -1,14 +1,8 @@
 -- `checker::signed::shifted` meets its contract: what is added and taken away is small.
 -- Assumes nothing.
-use Rattle.std.proofs.Common.{◌≡◌, ◌*◌, pos, ◌+ℤ◌, arith, w64, to_z}
-use Rattle.checker.proofs.Bits.{again, held, natural, add_size, plus_small, plus_back, minus_small, minus_back}
+use Rattle.std.proofs.Common.{◌*◌, pos, ◌+ℤ◌, arith}
+use Rattle.checker.proofs.Bits.{held, natural, add_size, plus_small, plus_back, minus_small, minus_back}
 use Rattle.checker.proofs.signed.shifted.Goals as goal
-
-sum_is : (c : tie.Start) → again (again c.args.x +ℤ to_z w64 (2 * c.args.w)) ≡ c.args.x +ℤ pos (2 * c.args.w)
-sum_is c =
-    let a = c.args in
-    let p = c.requires in
-    plus_back a.x (pos (2 * a.w)) (held a.x c.ranges.x.sfits) (natural (2 * a.w) (omega (arith, p))) (omega (arith, p)) (omega (arith, p))
 
 pub overflow_add-result : goal.overflow_add-result
 overflow_add-result c =
@@ -21,11 +15,13 @@ overflow_sub-result c =
     let a = c.args in
     let p = c.requires in
     let s = add_size a.x (pos (2 * a.w)) in
-    minus_small (a.x +ℤ pos (2 * a.w)) (pos a.y) (sum_is c) (natural a.y (omega (arith, p))) (omega (arith, p, s)) (omega (arith, p))
+    let sum = plus_back a.x (pos (2 * a.w)) (held a.x c.ranges.x.sfits) (natural (2 * a.w) (omega (arith, p))) (omega (arith, p)) (omega (arith, p)) in
+    minus_small (a.x +ℤ pos (2 * a.w)) (pos a.y) sum (natural a.y (omega (arith, p))) (omega (arith, p, s)) (omega (arith, p))
 
 pub returns : goal.returns
 returns c =
     let a = c.args in
     let p = c.requires in
     let s = add_size a.x (pos (2 * a.w)) in
-    minus_back (a.x +ℤ pos (2 * a.w)) (pos a.y) (sum_is c) (natural a.y (omega (arith, p))) (omega (arith, p, s)) (omega (arith, p))
+    let sum = plus_back a.x (pos (2 * a.w)) (held a.x c.ranges.x.sfits) (natural (2 * a.w) (omega (arith, p))) (omega (arith, p)) (omega (arith, p)) in
+    minus_back (a.x +ℤ pos (2 * a.w)) (pos a.y) sum (natural a.y (omega (arith, p))) (omega (arith, p, s)) (omega (arith, p))

@@ -25,7 +25,7 @@ returns-in-5 c = sym (begins_kind WeightedSet _ (omega arith) (sym c.read_u8-num
 pub returns-in_default : goal.returns-in_default
 unfolding kind_of
 returns-in_default c =
-    let none = c.in_default.rest in
+    let none = c.in_default.in_default-own.rest in
     rw (
       ← c.read_u8-number.ensures.0,
       ne_eqb _ 1 none.0.0.0.0.1,

@@ -27,7 +27,11 @@ choose-returns-then-v-eq0 t c =
     let P = table_problem a.size a.costs.now a.masks.now in
     let bounded = tables_bounded a.size a.costs.now a.masks.now fine.clauses in
     let v = c.next_variable-v in
-    record { size = (pre.0); below = (below_self a.at a.table.now); visits = (λ deep l. c.improved.ensures ∙ chosen_plan P bounded a.p a.s pre.4 a.price pre.5 pre.6 (explore P deep) (sym v.ensures ∙ c.if-v-eq0.true)) }
+    record {
+      size = pre.0;
+      below = below_self a.at a.table.now;
+      visits = λ deep l. c.improved.ensures ∙ chosen_plan P bounded a.p a.s pre.4 a.price pre.5 pre.6 (explore P deep) (sym v.ensures ∙ c.if-v-eq0.true);
+    }
 
 pub choose-returns-then-s-eq0 : goal.choose-returns-then-s-eq0
 choose-returns-then-s-eq0 t c =
@@ -37,7 +41,11 @@ choose-returns-then-s-eq0 t c =
     let P = table_problem a.size a.costs.now a.masks.now in
     let bounded = tables_bounded a.size a.costs.now a.masks.now fine.clauses in
     let v = c.next_variable-v in
-    record { size = (pre.0); below = (below_self a.at a.table.now); visits = (λ deep l. c.halted.ensures ∙ chosen_none P bounded a.p a.s pre.4 a.price pre.5 pre.6 (explore P deep) v.result v.ensures c.if-v-eq0.false c.if-s-eq0.true) }
+    record {
+      size = pre.0;
+      below = below_self a.at a.table.now;
+      visits = λ deep l. c.halted.ensures ∙ chosen_none P bounded a.p a.s pre.4 a.price pre.5 pre.6 (explore P deep) v.result v.ensures c.if-v-eq0.false c.if-s-eq0.true;
+    }
 
 pub choose-copy_level-requires : goal.choose-copy_level-requires
 choose-copy_level-requires t c =
@@ -90,9 +98,9 @@ choose-force-t-requires t c =
     let free = rw (← variable_negative v.result) at next.passes in
     let d = c.copy_level in
     let table = d.new.table in
-    let counts = counts_copied P a.at (words_for a.size.clauses) a.table.now table (at_node a.p) refl d.ensures.same.0 pre.2 in
+    let counts = counts_copied P a.at (words_for a.size.clauses) a.table.now table (at_node a.p) refl d.ensures.same pre.2 in
     let w = c.with_false in (
-      child_falls P a.p pre.4 (negative v.result) here free w.result w.ensures t c.requires.0,
+      child_falls P a.p pre.4 (negative v.result) here free w.result w.ensures t c.decreases,
       (
         d.ensures.size,
         child_room P a.p pre.4 (negative v.result) here free w.result w.ensures a.at pre.1,
@@ -123,8 +131,13 @@ choose-returns-then-t-eq0 t c =
     let s1 = c.spent in
     let table2 = f.new.table in
     let same : Below (a.at + 320) a.table.now table2 =
-    below_trans (a.at + 320) a.table.now table table2 (outside_below (a.at + 320) a.table.now table d.ensures.same.1) f.ensures.below.0 in
-    let one = child_explored P a.p pre.4 (negative v.result) here free w.result w.ensures bounded a.s s1.result f.result s1.ensures f.ensures.below.1 in record { size = (f.ensures.size); below = (below_less a.at (a.at + 320) a.table.now table2 (omega arith) same); visits = (λ deep l. c.halted-then-t-eq0.ensures ∙ chosen_one P bounded a.p a.s pre.4 a.price pre.5 pre.6 (explore P deep) v.result v.ensures some f.result c.if-s-eq0.false (one deep l) c.if-t-eq0.true) }
+    below_trans (a.at + 320) a.table.now table table2 (outside_below (a.at + 320) a.table.now table d.ensures.outside) f.ensures.below in
+    let one = child_explored P a.p pre.4 (negative v.result) here free w.result w.ensures bounded a.s s1.result f.result s1.ensures f.ensures.explores in
+    record {
+      size = f.ensures.size;
+      below = below_less a.at (a.at + 320) a.table.now table2 (omega arith) same;
+      visits = λ deep l. c.halted-then-t-eq0.ensures ∙ chosen_one P bounded a.p a.s pre.4 a.price pre.5 pre.6 (explore P deep) v.result v.ensures some f.result c.if-s-eq0.false (one deep l) c.if-t-eq0.true;
+    }
 
 pub choose-spent-u-requires : goal.choose-spent-u-requires
 choose-spent-u-requires t c =
@@ -230,10 +243,14 @@ choose-returns-then-u-price t c =
     let s1 = c.spent in
     let table2 = f.new.table in
     let same : Below (a.at + 320) a.table.now table2 =
-    below_trans (a.at + 320) a.table.now table table2 (outside_below (a.at + 320) a.table.now table d.ensures.same.1) f.ensures.below.0 in
-    let one = child_explored P a.p pre.4 (negative v.result) here free w.result w.ensures bounded a.s s1.result f.result s1.ensures f.ensures.below.1 in
-    let s2 = c.spent-u in record { size = (f.ensures.size); below = (below_less a.at (a.at + 320) a.table.now table2 (omega arith) same); visits = (λ deep l. chosen_both P bounded a.p a.s pre.4 a.price pre.5 pre.6 (explore P deep) v.result v.ensures some f.result c.if-s-eq0.false (one deep l) s2.result c.if-t-eq0.false
-            (true_left P bounded a.p v.result next.among next.passes f.result s2.result a.price pre.5 s2.ensures c.if-u-price.true deep l)) }
+    below_trans (a.at + 320) a.table.now table table2 (outside_below (a.at + 320) a.table.now table d.ensures.outside) f.ensures.below in
+    let one = child_explored P a.p pre.4 (negative v.result) here free w.result w.ensures bounded a.s s1.result f.result s1.ensures f.ensures.explores in
+    let s2 = c.spent-u in record {
+      size = (f.ensures.size);
+      below = (below_less a.at (a.at + 320) a.table.now table2 (omega arith) same);
+      visits = (λ deep l. chosen_both P bounded a.p a.s pre.4 a.price pre.5 pre.6 (explore P deep) v.result v.ensures some f.result c.if-s-eq0.false (one deep l) s2.result c.if-t-eq0.false
+          (true_left P bounded a.p v.result next.among next.passes f.result s2.result a.price pre.5 s2.ensures c.if-u-price.true deep l));
+    }
 
 pub choose-with_true-requires : goal.choose-with_true-requires
 choose-with_true-requires t c =
@@ -267,14 +284,14 @@ choose-force-requires t c =
     let s1 = c.spent in
     let table2 = f.new.table in
     let same : Below (a.at + 320) a.table.now table2 =
-    below_trans (a.at + 320) a.table.now table table2 (outside_below (a.at + 320) a.table.now table d.ensures.same.1) f.ensures.below.0 in
-    let one = child_explored P a.p pre.4 (negative v.result) here free w.result w.ensures bounded a.s s1.result f.result s1.ensures f.ensures.below.1 in
+    below_trans (a.at + 320) a.table.now table table2 (outside_below (a.at + 320) a.table.now table d.ensures.outside) f.ensures.below in
+    let one = child_explored P a.p pre.4 (negative v.result) here free w.result w.ensures bounded a.s s1.result f.result s1.ensures f.ensures.explores in
     let here2 : Among a.size.variables (variable_of (positive v.result)) = rw (variable_positive v.result) next.among in
     let free2 = rw (← variable_positive v.result) at next.passes in
     let w2 = c.with_true in
     let few = fine.clauses.clauses in
     let room = child_room P a.p pre.4 (positive v.result) here2 free2 w2.result w2.ensures a.at pre.1 in (
-      child_falls P a.p pre.4 (positive v.result) here2 free2 w2.result w2.ensures t c.requires.0,
+      child_falls P a.p pre.4 (positive v.result) here2 free2 w2.result w2.ensures t c.decreases,
       (
         f.ensures.size,
         omega (arith, room),
@@ -306,22 +323,31 @@ choose-returns t c =
     let s1 = c.spent in
     let table2 = f.new.table in
     let same : Below (a.at + 320) a.table.now table2 =
-    below_trans (a.at + 320) a.table.now table table2 (outside_below (a.at + 320) a.table.now table d.ensures.same.1) f.ensures.below.0 in
-    let one = child_explored P a.p pre.4 (negative v.result) here free w.result w.ensures bounded a.s s1.result f.result s1.ensures f.ensures.below.1 in
+    below_trans (a.at + 320) a.table.now table table2 (outside_below (a.at + 320) a.table.now table d.ensures.outside) f.ensures.below in
+    let one = child_explored P a.p pre.4 (negative v.result) here free w.result w.ensures bounded a.s s1.result f.result s1.ensures f.ensures.explores in
     let here2 : Among a.size.variables (variable_of (positive v.result)) = rw (variable_positive v.result) next.among in
     let free2 = rw (← variable_positive v.result) at next.passes in
     let w2 = c.with_true in
     let s2 = c.spent-u in
     let g = c.force in
     let table3 = g.new.table in
-    let two = child_explored P a.p pre.4 (positive v.result) here2 free2 w2.result w2.ensures bounded f.result s2.result g.result s2.ensures g.ensures.below.1 in record { size = (g.ensures.size); below = (below_trans a.at a.table.now table2 table3 (below_less a.at (a.at + 320) a.table.now table2 (omega arith) same) g.ensures.below.0); visits = (λ deep l. chosen_both P bounded a.p a.s pre.4 a.price pre.5 pre.6 (explore P deep) v.result v.ensures some f.result c.if-s-eq0.false (one deep l) g.result c.if-t-eq0.false (two deep l)) }
+    let two = child_explored P a.p pre.4 (positive v.result) here2 free2 w2.result w2.ensures bounded f.result s2.result g.result s2.ensures g.ensures.explores in
+    record {
+      size = g.ensures.size;
+      below = below_trans a.at a.table.now table2 table3 (below_less a.at (a.at + 320) a.table.now table2 (omega arith) same) g.ensures.below;
+      visits = λ deep l. chosen_both P bounded a.p a.s pre.4 a.price pre.5 pre.6 (explore P deep) v.result v.ensures some f.result c.if-s-eq0.false (one deep l) g.result c.if-t-eq0.false (two deep l);
+    }
 
 pub force-returns-then-s-price : goal.force-returns-then-s-price
 force-returns-then-s-price t c =
     let a = c.args in
     let pre = c.requires in
-    let P = table_problem a.size a.costs.now a.masks.now in record { size = (pre.0); below = (below_self a.at a.table.now); explores = (λ p deep reached l.
-            forced_left P p a.s (counted_ahead P p a.w a.s.cost reached (omega (arith, pre.6, c.if-s-price.true))) deep (omega (arith, l))) }
+    let P = table_problem a.size a.costs.now a.masks.now in record {
+      size = (pre.0);
+      below = (below_self a.at a.table.now);
+      explores = (λ p deep reached l.
+          forced_left P p a.s (counted_ahead P p a.w a.s.cost reached (omega (arith, pre.6, c.if-s-price.true))) deep (omega (arith, l)));
+    }
 
 pub force-force_all-f-requires : goal.force-force_all-f-requires
 force-force_all-f-requires t c =
@@ -335,8 +361,12 @@ force-returns-then-f t c =
     let a = c.args in
     let pre = c.requires in
     let P = table_problem a.size a.costs.now a.masks.now in
-    let f = c.force_all-f in record { size = (f.ensures.size); below = (outside_below a.at a.table.now f.new.table f.ensures.outside.0); explores = (λ p deep reached l.
-            forced_left P p a.s ((f.ensures.outside.1.1.1.1 p reached).leaves c.if-f.true) deep (omega (arith, l))) }
+    let f = c.force_all-f in record {
+      size = (f.ensures.size);
+      below = (outside_below a.at a.table.now f.new.table f.ensures.outside);
+      explores = (λ p deep reached l.
+          forced_left P p a.s ((f.ensures.same p reached).leaves c.if-f.true) deep (omega (arith, l)));
+    }
 
 pub force-choose-requires : goal.force-choose-requires
 force-choose-requires t c =
@@ -345,9 +375,9 @@ force-choose-requires t c =
     let P = table_problem a.size a.costs.now a.masks.now in
     let f = c.force_all-f in
     let on = c.if-f.false in
-    let fewer = count_under a.size.variables (node_of a.w) (settled_node f.result) (f.ensures.outside.1.1.0 on) in
-    let (quiet, is-price, cheaper) = f.ensures.outside.1.1.1.0 on in
-    (omega (arith, fewer, c.requires.0), (f.ensures.size, omega (arith, fewer, pre.1), f.ensures.outside.1.0 on, pre.3, quiet, is-price, cheaper))
+    let fewer = count_under a.size.variables (node_of a.w) (settled_node f.result) (f.ensures.under on) in
+    let (quiet, is-price, cheaper) = f.ensures.quiet on in
+    (omega (arith, fewer, c.decreases), (f.ensures.size, omega (arith, fewer, pre.1), f.ensures.counts on, pre.3, quiet, is-price, cheaper))
 
 pub force-returns : goal.force-returns
 force-returns t c =
@@ -356,5 +386,9 @@ force-returns t c =
     let P = table_problem a.size a.costs.now a.masks.now in
     let f = c.force_all-f in
     let g = c.choose in
-    let bounded = tables_bounded a.size a.costs.now a.masks.now pre.3.clauses in record { size = (g.ensures.size); below = (below_trans a.at a.table.now f.new.table g.new.table (outside_below a.at a.table.now f.new.table f.ensures.outside.0) g.ensures.below.0); explores = (λ p deep reached l.
-            forced_visit P p a.s bounded (settled_node f.result) g.result ((f.ensures.outside.1.1.1.1 p reached).stays c.if-f.false) g.ensures.below.1 deep l) }
+    let bounded = tables_bounded a.size a.costs.now a.masks.now pre.3.clauses in record {
+      size = (g.ensures.size);
+      below = (below_trans a.at a.table.now f.new.table g.new.table (outside_below a.at a.table.now f.new.table f.ensures.outside) g.ensures.below);
+      explores = (λ p deep reached l.
+          forced_visit P p a.s bounded (settled_node f.result) g.result ((f.ensures.same p reached).stays c.if-f.false) g.ensures.visits deep l);
+    }

@@ -61,4 +61,4 @@ returns c =
     let l = c.look_all-w in
     let P = table_problem a.size a.costs.now a.masks.now in
     root_explored P (tables_bounded a.size a.costs.now a.masks.now c.requires.clauses) l.result l.ensures.onto (l.ensures.keeps a.costs.now) a.budget _ refl
-    c.force.result c.force.ensures.below.1
+    c.force.result c.force.ensures.explores

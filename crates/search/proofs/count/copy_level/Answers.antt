@@ -1,4 +1,4 @@
-use Prim.Native.Nat.{◌+◌, ◌-◌}
+use Prim.Native.Nat.{◌+◌}
 use mathlib.Core.Path.{refl}
 use native.Mathlib.Omega.{arith}
 use lib.ListN.{length-set}
@@ -25,4 +25,4 @@ returns c =
     let p = c.requires in
     let l = c.loop-i in
     let e = same_all a.table.now l.table a.at a.words l.i p.1 (omega arith) l.invariant.0 l.invariant.2 in
-    (l.invariant.1, e)
+    record { size = l.invariant.1; same = e.0; outside = e.1 }

@@ -1,4 +1,3 @@
-use Prim.Native.Nat.{◌-◌}
 use mathlib.Core.Path.{refl}
 use native.Mathlib.Omega.{arith}
 use lib.ListN.{length-set}
@@ -32,4 +31,7 @@ returns c =
     let a = c.args in
     let p = c.requires in
     let l = c.loop-i in
-    record { size = (l.invariant.1); down = (less_all a.rows.now a.table.now l.table a.c a.at a.words l.i p.2 (omega arith) l.invariant.0 l.invariant.3) }
+    record {
+      size = l.invariant.1;
+      down = less_all a.rows.now a.table.now l.table a.c a.at a.words l.i p.2 (omega arith) l.invariant.0 l.invariant.3;
+    }

@@ -25,7 +25,7 @@ search_tables-requires c =
     let costs = c.fill_costs in
     let s = c.args.s.now in
     tables_fine s c.requires.0 c.requires.1 costs.new.costs masks.new.masks rows.new.rows masks.ensures.each
-    (size_read s n.ensures.0 m.ensures.0 l.ensures.0) rows.ensures.each costs.ensures.small.0 l.ensures.1
+    (size_read s n.ensures.0 m.ensures.0 l.ensures.0) rows.ensures.each costs.ensures.small l.ensures.1
 
 pub returns : goal.returns
 returns c =
@@ -40,4 +40,4 @@ returns c =
     c.search_tables.ensures
     ∙ same_search _ _
     (tables_alike s c.requires.0 c.requires.1 costs.new.costs masks.new.masks rows.new.rows masks.ensures.each e
-    costs.ensures.small.1) c.args.budget
+    costs.ensures.each) c.args.budget

@@ -1,4 +1,3 @@
-use Prim.Native.Nat.{◌-◌}
 use native.Mathlib.Omega.{arith}
 use Rattle.search.proofs.Entering.{next_among, gathered_none, gathered_more, gathered_all}
 use Rattle.search.proofs.fill.set_of.Goals as goal

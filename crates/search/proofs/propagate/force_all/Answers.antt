@@ -1,6 +1,5 @@
 use Prim.Native.Nat.{ℕ, ◌*◌, ◌^◌, ◌≤◌, ◌<◌}
 use mathlib.Core.Path.{refl, sym, ap, ◌∙◌}
-use mathlib.Core.Bool.{false}
 use mathlib.Core.Logic.{inl}
 use native.Mathlib.Omega.{arith}
 use Rattle.judgement.proofs.Laws.Scan.{clash}
@@ -44,8 +43,15 @@ returns-then-best-paid c =
     let s = c.share-paid in
     let P = table_problem a.size a.costs.now a.masks.now in
     let paid = round_paid P l.out (omega arith) (omega arith) l.invariant.5 l.paid s.result l.invariant.6 s.ensures.0 in
-    let left = c.no_Node.ensures in record { size = (l.invariant.0); outside = (l.invariant.2); counts = (λ e. absurd (clash left e)); under = (λ e. absurd (clash left e)); quiet = (λ e. absurd (clash left e)); same = (λ p x. left_outcome P a.best p c.no_Node.result left
-                  (counted_ahead P p (looked_at l.out) a.best (l.invariant.9 p x) (omega (arith, paid)))) }
+    let left = c.no_node.ensures in record {
+      size = (l.invariant.0);
+      outside = (l.invariant.2);
+      counts = (λ e. absurd (clash left e));
+      under = (λ e. absurd (clash left e));
+      quiet = (λ e. absurd (clash left e));
+      same = (λ p x. left_outcome P a.best p c.no_node.result left
+          (counted_ahead P p (looked_at l.out) a.best (l.invariant.9 p x) (omega (arith, paid))));
+    }
 
 pub false_literal-requires : goal.false_literal-requires
 false_literal-requires c = todo_wide c.loop-out.out (omega arith) (omega arith)
@@ -56,7 +62,7 @@ count_down-requires c =
     let l = c.loop-out in
     let few = pre.1.clauses.clauses in
     let some : 1 ≤ l.out.todo = omega (arith, c.loop-out-test.true) in
-    let word : l.out.todo < 2 ^ 64 = omega (arith, c.struct_known-in-loop-out-1.given) in
+    let word : l.out.todo < 2 ^ 64 = omega arith in
     (l.invariant.0, false_wide l.out _ c.false_literal.result (todo_wide l.out some word) c.false_literal.ensures, omega (arith, few, l.invariant.1), pre.2)
 
 pub looked_at-requires : goal.looked_at-requires
@@ -69,7 +75,7 @@ look_low-out-requires c =
     let fine = c.requires.1 in
     let l = c.loop-out in
     let some : 1 ≤ l.out.todo = omega (arith, c.loop-out-test.true) in
-    let word : l.out.todo < 2 ^ 64 = omega (arith, c.struct_known-in-loop-out-1.given) in
+    let word : l.out.todo < 2 ^ 64 = omega arith in
     let u = c.looked_at in
     let d = c.count_down in
     let z = c.false_literal in (
@@ -87,7 +93,7 @@ returns-then-out c =
     let fine = c.requires.1 in
     let l = c.loop-out in
     let some : 1 ≤ l.out.todo = omega (arith, c.loop-out-test.true) in
-    let word : l.out.todo < 2 ^ 64 = omega (arith, c.struct_known-in-loop-out-1.given) in
+    let word : l.out.todo < 2 ^ 64 = omega arith in
     let u = c.looked_at in
     let d = c.count_down in
     let z = c.false_literal in
@@ -97,7 +103,15 @@ returns-then-out c =
     let down = rw (l.invariant.1, z.ensures) at d.ensures.down in
     let few = fine.clauses.clauses in
     let ready = ready_low a.size a.costs.now a.masks.now a.rows.now l.table table a.at (64 * words_for a.size.clauses) fine.clauses fine.literals l.out some word l.invariant.5 l.invariant.3 down (omega arith) in
-    let left = c.no_node-then-out.ensures in record { size = (d.ensures.size); outside = (outside_trans a.at a.table.now l.table table l.invariant.2 down.outside); counts = (λ e. absurd (clash left e)); under = (λ e. absurd (clash left e)); quiet = (λ e. absurd (clash left e)); same = (λ p x. left_outcome P a.best p c.no_node-then-out.result left (inl (round_dead P l.out u.result f.result (plane table a.at 4) u.ensures ready f.ensures.onto (f.ensures.keeps a.costs.now) c.if-out.true p (l.invariant.9 p x)))) }
+    let left = c.no_node-then-out.ensures in
+    record {
+      size = d.ensures.size;
+      outside = outside_trans a.at a.table.now l.table table l.invariant.2 down.outside;
+      counts = λ e. absurd (clash left e);
+      under = λ e. absurd (clash left e);
+      quiet = λ e. absurd (clash left e);
+      same = λ p x. left_outcome P a.best p c.no_node-then-out.result left (inl (round_dead P l.out u.result f.result (plane table a.at 4) u.ensures ready f.ensures.onto (f.ensures.keeps a.costs.now) c.if-out.true p (l.invariant.9 p x)));
+    }
 
 pub loop-out-smaller : goal.loop-out-smaller
 loop-out-smaller c =
@@ -106,7 +120,7 @@ loop-out-smaller c =
     let fine = c.requires.1 in
     let l = c.loop-out in
     let some : 1 ≤ l.out.todo = omega (arith, c.loop-out-test.true) in
-    let word : l.out.todo < 2 ^ 64 = omega (arith, c.struct_known-in-loop-out-1.given) in
+    let word : l.out.todo < 2 ^ 64 = omega arith in
     let u = c.looked_at in
     let d = c.count_down in
     let z = c.false_literal in
@@ -125,7 +139,7 @@ loop-out-preserved c =
     let fine = c.requires.1 in
     let l = c.loop-out in
     let some : 1 ≤ l.out.todo = omega (arith, c.loop-out-test.true) in
-    let word : l.out.todo < 2 ^ 64 = omega (arith, c.struct_known-in-loop-out-1.given) in
+    let word : l.out.todo < 2 ^ 64 = omega arith in
     let u = c.looked_at in
     let d = c.count_down in
     let z = c.false_literal in
@@ -159,4 +173,12 @@ returns c =
     let fine = c.requires.1 in
     let bounded = tables_bounded a.size a.costs.now a.masks.now fine.clauses in
     let done = c.loop-out-test.false in
-    let quiet = all_quiet P bounded l.out l.invariant.5 (λ v. ap (λ (y : ℕ). has y v) done ∙ has_empty v) in record { size = (l.invariant.0); outside = (l.invariant.2); counts = (λ e. counts_settled P l.table a.at l.out done l.invariant.4 l.invariant.3); under = (λ e. l.invariant.8); quiet = (λ e. (quiet, l.invariant.6 ∙ counted_all P l.out done, l.invariant.7)); same = (λ p x. record { leaves = λ e. absurd (clash e refl); stays = λ e. quiet_end P bounded p (node_of l.out) (l.invariant.9 p x) quiet }) }
+    let quiet = all_quiet P bounded l.out l.invariant.5 (λ v. ap (λ (y : ℕ). has y v) done ∙ has_empty v) in
+    record {
+      size = l.invariant.0;
+      outside = l.invariant.2;
+      counts = λ e. counts_settled P l.table a.at l.out done l.invariant.4 l.invariant.3;
+      under = λ e. l.invariant.8;
+      quiet = λ e. (quiet, l.invariant.6 ∙ counted_all P l.out done, l.invariant.7);
+      same = λ p x. record { leaves = λ e. absurd (clash e refl); stays = λ e. quiet_end P bounded p (node_of l.out) (l.invariant.9 p x) quiet };
+    }

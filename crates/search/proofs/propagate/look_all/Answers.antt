@@ -1,6 +1,5 @@
-use Prim.Native.Nat.{◌+◌, ◌-◌}
+use Prim.Native.Nat.{◌+◌}
 use mathlib.Core.Path.{refl}
-use mathlib.Core.Bool.{false}
 use mathlib.Core.Logic.{inl, inr}
 use native.Mathlib.Omega.{arith}
 use Rattle.search.proofs.Walking.{all_first, all_next, all_last}
@@ -37,9 +36,10 @@ returns-then-out c =
     let a = c.args in
     let l = c.loop-k in
     let fine = c.requires.1 in
-    all_last a.size a.masks.now a.w c.look-out.result (l.k + 1) (inl c.if-out.true)
+    let e = all_last a.size a.masks.now a.w c.look-out.result (l.k + 1) (inl c.if-out.true)
     (all_next a.size a.masks.now fine a.w l.out c.look-out.result l.k (omega arith) l.invariant.0 c.look-out.ensures
-    (l.invariant.2 a.size refl fine))
+    (l.invariant.2 a.size refl fine)) in
+    record { onto = e.0; keeps = e.1 }
 
 pub loop-k-preserved : goal.loop-k-preserved
 loop-k-preserved c =
@@ -55,4 +55,5 @@ pub returns : goal.returns
 returns c =
     let a = c.args in
     let l = c.loop-k in
-    all_last a.size a.masks.now a.w l.out l.k (inr (omega arith)) (l.invariant.2 a.size refl c.requires.1)
+    let e = all_last a.size a.masks.now a.w l.out l.k (inr (omega arith)) (l.invariant.2 a.size refl c.requires.1) in
+    record { onto = e.0; keeps = e.1 }

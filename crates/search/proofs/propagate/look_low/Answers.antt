@@ -1,6 +1,5 @@
-use Prim.Native.Nat.{◌+◌, ◌-◌}
+use Prim.Native.Nat.{◌+◌}
 use mathlib.Core.Path.{refl}
-use mathlib.Core.Bool.{false}
 use mathlib.Core.Logic.{inl, inr}
 use native.Mathlib.Omega.{arith}
 use Rattle.search.proofs.Walking.{low_inside, low_begins, low_goes_on, low_skips, low_ends}
@@ -46,8 +45,9 @@ returns-then-out c =
     let a = c.args in
     let l = c.loop-i in
     let f = c.look_word-out in
-    low_ends a.size a.masks.now a.table.now a.at a.w f.result (l.i + 1) (inl c.if-out.true)
-    (low_goes_on a.size a.masks.now a.table.now a.at a.w l.out f.result l.i l.invariant.0 f.ensures.onto f.ensures.keeps l.invariant.4)
+    let e = low_ends a.size a.masks.now a.table.now a.at a.w f.result (l.i + 1) (inl c.if-out.true)
+    (low_goes_on a.size a.masks.now a.table.now a.at a.w l.out f.result l.i l.invariant.0 f.ensures.onto f.ensures.keeps l.invariant.4) in
+    record { onto = e.0; keeps = e.1 }
 
 pub next_word-i-requires-in-loop-i : goal.next_word-i-requires-in-loop-i
 next_word-i-requires-in-loop-i c = let l = c.requires.2 in let f = c.requires.1.clauses in (omega (arith, l, f), omega arith)
@@ -73,4 +73,5 @@ pub returns : goal.returns
 returns c =
     let a = c.args in
     let l = c.loop-i in
-    low_ends a.size a.masks.now a.table.now a.at a.w l.out l.i (inr (omega arith)) l.invariant.4
+    let e = low_ends a.size a.masks.now a.table.now a.at a.w l.out l.i (inr (omega arith)) l.invariant.4 in
+    record { onto = e.0; keeps = e.1 }

@@ -1,5 +1,4 @@
 use Prim.Native.Nat.{◌-◌}
-use mathlib.Core.Bool.{true, false}
 use mathlib.Core.Logic.{inl, inr}
 use native.Mathlib.Omega.{arith}
 use lib.Bits.{and_le_l, and_le_r}
@@ -56,9 +55,10 @@ returns-then-out c =
     let fine = c.requires.1 in
     let inside = c.requires.3 in
     let here = word_inside a.i l.x (omega arith) l.invariant.1 a.size.clauses (λ j w t. inside j w (l.invariant.2 j t)) in
-    word_last a.size a.masks.now a.i a.bits a.w c.look-out.result _ (inl c.if-out.true)
+    let e = word_last a.size a.masks.now a.i a.bits a.w c.look-out.result _ (inl c.if-out.true)
     (word_next a.size a.masks.now a.i a.bits fine a.w l.out c.look-out.result l.x (omega arith) l.invariant.1 here l.invariant.0
-    c.look-out.ensures (l.invariant.3 a.size fine inside))
+    c.look-out.ensures (l.invariant.3 a.size fine inside)) in
+    record { onto = e.0; keeps = e.1 }
 
 pub loop-x-smaller : goal.loop-x-smaller
 loop-x-smaller c = let l = and_le_r c.loop-x.x (c.loop-x.x - 1) in omega (arith, l)
@@ -80,4 +80,5 @@ pub returns : goal.returns
 returns c =
     let a = c.args in
     let l = c.loop-x in
-    word_last a.size a.masks.now a.i a.bits a.w l.out l.x (inr (omega arith)) (l.invariant.3 a.size c.requires.1 c.requires.3)
+    let e = word_last a.size a.masks.now a.i a.bits a.w l.out l.x (inr (omega arith)) (l.invariant.3 a.size c.requires.1 c.requires.3) in
+    record { onto = e.0; keeps = e.1 }
