@@ -32,11 +32,10 @@ returns-then-not-is_fine-3 c =
     ∙ then_stop _ _ c.assignment_finding-plan.ensures c.is_fine-3.ensures c.if-not-is_fine-3.true-raw)
 
 pub steps_finding-derivation-requires : goal.steps_finding-derivation-requires
-steps_finding-derivation-requires c =
-    (
-      sheet_valid _ c.if-s-gt-MOST_BYTES.false (passed c.sheet_finding-problem.ensures c.is_fine.ensures c.if-not-is_fine.false-raw),
-      record_layout _ _ c.if-r-gt-MOST_BYTES.false (passed c.record_finding-layouts.ensures c.is_fine-2.ensures c.if-not-is_fine-2.false-raw),
-    )
+steps_finding-derivation-requires c = (
+  sheet_valid _ c.if-s-gt-MOST_BYTES.false (passed c.sheet_finding-problem.ensures c.is_fine.ensures c.if-not-is_fine.false-raw),
+  record_layout _ _ c.if-r-gt-MOST_BYTES.false (passed c.record_finding-layouts.ensures c.is_fine-2.ensures c.if-not-is_fine-2.false-raw),
+)
 
 pub returns-then-not-is_fine-4 : goal.returns-then-not-is_fine-4
 returns-then-not-is_fine-4 c =

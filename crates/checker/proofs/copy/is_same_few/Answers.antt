@@ -1,4 +1,4 @@
-use Rattle.std.proofs.Common.{◌≡◌, ◌-◌, true, sym, ◌∙◌, arith}
+use Rattle.std.proofs.Common.{◌≡◌, sym, ◌∙◌, arith}
 use Rattle.checker.proofs.Copying.{same_none, same_next, same_stop}
 use Rattle.checker.proofs.copy.is_same_few.Goals as goal
 

@@ -1,4 +1,4 @@
-use Rattle.std.proofs.Common.{◌≡◌, ◌-◌, refl, arith}
+use Rattle.std.proofs.Common.{◌≡◌, refl, arith}
 use Rattle.judgement.specs.Scan.{sum_of}
 use Rattle.judgement.specs.Literals.{count, code}
 use Rattle.layout.proofs.Loops.{sum_more}

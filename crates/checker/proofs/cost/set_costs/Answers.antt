@@ -1,4 +1,4 @@
-use Rattle.std.proofs.Common.{◌≡◌, ◌+◌, ◌-◌, ◌*◌, ◌<◌, length, refl, ap, arith, length-set}
+use Rattle.std.proofs.Common.{◌≡◌, ◌+◌, ◌*◌, ◌<◌, length, refl, ap, arith, length-set}
 use Rattle.judgement.specs.Sheet.{variables, cost_of}
 use Rattle.checker.proofs.Pricing.{filled_more}
 use Rattle.checker.proofs.cost.set_costs.Goals as goal

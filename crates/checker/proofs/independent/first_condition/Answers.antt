@@ -1,4 +1,4 @@
-use Rattle.std.proofs.Common.{◌≡◌, ◌-◌, refl, arith}
+use Rattle.std.proofs.Common.{◌≡◌, refl, arith}
 use Rattle.judgement.specs.Literals.{count}
 use Rattle.checker.proofs.FirstCondition.{asked_start, asked_more, asked_told}
 use Rattle.checker.proofs.independent.first_condition.Goals as goal

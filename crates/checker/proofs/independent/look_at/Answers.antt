@@ -1,4 +1,4 @@
-use Rattle.std.proofs.Common.{◌≡◌, ◌-◌, arith}
+use Rattle.std.proofs.Common.{◌≡◌, arith}
 use Rattle.judgement.specs.Literals.{count}
 use Rattle.checker.proofs.Conditions.{looked_start, looked_more, looked_told}
 use Rattle.checker.proofs.independent.look_at.Goals as goal

@@ -1,4 +1,4 @@
-use Rattle.std.proofs.Common.{◌≡◌, ◌-◌, refl, arith, length-set}
+use Rattle.std.proofs.Common.{◌≡◌, refl, arith, length-set}
 use Rattle.judgement.specs.Scan.{any_of, sum_of}
 use Rattle.judgement.specs.Literals.{count, code}
 use Rattle.layout.proofs.Loops.{sum_more}

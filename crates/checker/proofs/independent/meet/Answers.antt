@@ -30,6 +30,9 @@ returns c =
     let above = c.wrapping_sub_u64-above in
     let d = variable_of x - 1 in
     let z = t + x + 2 * (above.result / 2 ^ 63) in
-    let most = new-most t x above.result {x = z} refl c.requires.1.1 above.type_inv in record { stale = (stale_marked marks d (omega arith) (stale_set marks (t + 4096) d z (within x c.requires.1) most c.requires.0)); tells = (λ D uses m.
+    let most = new-most t x above.result {x = z} refl c.requires.1.1 above.type_inv in record {
+      stale = (stale_marked marks d (omega arith) (stale_set marks (t + 4096) d z (within x c.requires.1) most c.requires.0));
+      tells = (λ D uses m.
           told_marked marks d (omega arith)
-          (met_told D uses t marks x c.requires.1 m c.requires.2 above.type_inv above.ensures.value c.wrapping_sub_u64-settled.type_inv c.wrapping_sub_u64-settled.ensures.value)) }
+          (met_told D uses t marks x c.requires.1 m c.requires.2 above.type_inv above.ensures.value c.wrapping_sub_u64-settled.type_inv c.wrapping_sub_u64-settled.ensures.value));
+    }

@@ -4,7 +4,6 @@ use Rattle.judgement.specs.Meaning.{variable_of}
 use Rattle.judgement.specs.Literals.{count, code}
 use Rattle.judgement.specs.Sheet.{variables}
 use Rattle.judgement.specs.Linear.{remainder, entry_clause, addend}
-use Rattle.judgement.specs.Step.{weight}
 use Rattle.judgement.specs.Facts.{Among, LiteralList}
 use Rattle.judgement.specs.Demands.{IsBytes}
 use Rattle.checker.specs.Prices.{price_at}
@@ -177,13 +176,13 @@ loop-i-preserved c =
     let w = (c.loop-i.invariant.2 c.requires.2.0 c.requires.2.1).state in
     let g = gain-bounded a.s.now a.prices.now a.tail.now C a.pairs a.d a.j y bytes-s bytes-e c.requires.0 clause-is y-small i x less x-is c.loop-i.marks c.loop-i.rest a.t c.requires.2.0 w c.meet-gain.ensures.told in
     let size = c.loop-i.invariant.1 in
-    let sum_is = held c.plus-sum.result c.plus-sum.type_inv ∙ (rw (← c.loop-i.sum-is) at c.plus-sum.ensures) ∙ again_right c.loop-i.sum c.meet-gain.result c.meet-gain.type_inv in
-    let s = add_size c.loop-i.sum c.meet-gain.result in (
+    let sum_is = held c.plus-sum.result c.plus-sum.type_inv ∙ c.plus-sum.ensures ∙ again_right (to_z w64 c.loop-i.sum-bits) c.meet-gain.result c.meet-gain.type_inv in
+    let s = add_size (to_z w64 c.loop-i.sum-bits) c.meet-gain.result in (
       omega arith,
       rw sum_is (omega (arith, g, size, s)),
       λ D w.
           let so = c.loop-i.invariant.2 D w in
-          added_more D a.s.now a.tail.now a.j a.t C y c.loop-i.marks c.meet-gain.new.marks c.loop-i.rest c.meet-gain.new.rest c.loop-i.sum _ c.meet-gain.result i x so
+          added_more D a.s.now a.tail.now a.j a.t C y c.loop-i.marks c.meet-gain.new.marks c.loop-i.rest c.meet-gain.new.rest (to_z w64 c.loop-i.sum-bits) _ c.meet-gain.result i x so
           (list a.s.now a.prices.now a.tail.now C a.pairs a.d a.j y bytes-s bytes-e c.requires.0 clause-is y-small) less x-is
           (rw (c.meet-gain.ensures.marked, c.meet-gain.ensures.kept) (met a.s.now a.prices.now a.tail.now C a.pairs a.d a.j y bytes-s bytes-e c.requires.0 clause-is y-small i x less x-is c.loop-i.marks c.loop-i.rest a.t D so.state))
           (told a.s.now a.prices.now a.tail.now C a.pairs a.d a.j y bytes-s bytes-e c.requires.0 clause-is y-small i x less x-is c.loop-i.marks c.loop-i.rest a.t D so.state c.meet-gain.ensures.told)
@@ -206,6 +205,6 @@ returns c =
     record {
       size = omega (arith, few, size, end);
       adds =
-          (λ D w. added_all D a.s.now a.tail.now a.j a.t C y c.loop-i.marks c.loop-i.rest c.loop-i.sum c.loop-i.i
+          (λ D w. added_all D a.s.now a.tail.now a.j a.t C y c.loop-i.marks c.loop-i.rest (to_z w64 c.loop-i.sum-bits) c.loop-i.i
           (form a.s.now a.prices.now a.tail.now C a.pairs a.d a.j y bytes-s bytes-e c.requires.0 clause-is y-small) clause-is weight_is end (c.loop-i.invariant.2 D w));
     }

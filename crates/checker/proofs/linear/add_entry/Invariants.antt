@@ -1,7 +1,7 @@
 -- `checker::linear::add_entry` meets its contract. The invariant: i literals of the clause are met, the numbers go with the remainders
 -- that these move, and the sum is the clause's weight and what they add. The measure is the number of literals left.
 -- Assumes nothing.
-use Rattle.std.proofs.Common.{ℕ, ◌+◌, ◌-◌, ◌*◌, ◌≤◌, List, nat_abs, w64, to_z}
+use Rattle.std.proofs.Common.{ℕ, ◌+◌, ◌-◌, ◌*◌, ◌≤◌, List, nat_abs}
 use Rattle.judgement.specs.Sheet.{variables}
 use Rattle.judgement.specs.Linear.{remainder}
 use Rattle.checker.specs.Weighing.{Weighing, full_of}

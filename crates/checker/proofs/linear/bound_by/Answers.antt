@@ -1,4 +1,4 @@
-use Rattle.std.proofs.Common.{◌≡◌, ◌-◌, ◌*◌, ◌^◌, ◌≤◌, ap, ◌∙◌, arith, w64, to_z}
+use Rattle.std.proofs.Common.{◌≡◌, ap, ◌∙◌, arith, w64, to_z}
 use Rattle.judgement.specs.Meaning.{with_loss}
 use Rattle.judgement.specs.Sheet.{variables, problem_of}
 use Rattle.judgement.specs.Step.{entry_count}
@@ -65,14 +65,14 @@ loop-j-preserved c =
     let taken = c.loop-j-test.true in
     let r = c.add_entry-gain.result in
     let told = c.add_entry-gain.ensures.adds c.args.list.now c.loop-j.invariant.2 in
-    let sum_is_lem = held c.plus-sum.result c.plus-sum.type_inv ∙ (rw (← c.loop-j.sum-is) at c.plus-sum.ensures) ∙ again_right (c.loop-j.sum) r c.add_entry-gain.type_inv in
-    let s = add_size (c.loop-j.sum) r in
+    let sum_is_lem = held c.plus-sum.result c.plus-sum.type_inv ∙ c.plus-sum.ensures ∙ again_right (to_z w64 c.loop-j.sum-bits) r c.add_entry-gain.type_inv in
+    let s = add_size (to_z w64 c.loop-j.sum-bits) r in
     let size = c.loop-j.invariant.1 in
     let g = c.add_entry-gain.ensures.size in (
       omega (arith, taken),
       rw sum_is_lem (omega (arith, s, size, g)),
       told.0,
-      total_next c.args.s.now c.args.list.now c.args.tail.now c.loop-j.j (c.loop-j.sum) r _ c.loop-j.invariant.3 sum_is_lem told.1,
+      total_next c.args.s.now c.args.list.now c.args.tail.now c.loop-j.j (to_z w64 c.loop-j.sum-bits) r _ c.loop-j.invariant.3 sum_is_lem told.1,
     )
 
 pub rounded_up-requires : goal.rounded_up-requires
@@ -91,5 +91,5 @@ returns c =
     let u = c.u16_at-d in
     let end : c.loop-j.j ≡ entry_count c.args.tail.now = omega (arith, c.loop-j.invariant.0, c.loop-j-test.false) in
     let rounded =
-    bound_of c.args.s.now c.args.list.now c.args.tail.now (c.loop-j.sum) c.loop-j.j u.result (rw (← c.loop-j.sum-is) at c.rounded_up.ensures.0) c.loop-j.invariant.3 end u.ensures.0 in
+    bound_of c.args.s.now c.args.list.now c.args.tail.now (to_z w64 c.loop-j.sum-bits) c.loop-j.j u.result c.rounded_up.ensures.0 c.loop-j.invariant.3 end u.ensures.0 in
     record { kept = ((c.loop-j.invariant.2.stale, c.loop-j.invariant.2.size)); bound = (c.with_loss.ensures ∙ ap (with_loss (problem_of c.args.s.now)) rounded) }

@@ -1,7 +1,7 @@
 -- `checker::linear::bound_by` meets its contract. The invariant: the sum is the total of j entries, and the numbers go with their
 -- remainders. The measure is the number of entries left.
 -- Assumes nothing.
-use Rattle.std.proofs.Common.{◌≡◌, ◌+◌, ◌-◌, ◌*◌, ◌^◌, ◌≤◌, nat_abs, w64, to_z}
+use Rattle.std.proofs.Common.{◌≡◌, ◌+◌, ◌-◌, ◌*◌, ◌^◌, ◌≤◌, nat_abs}
 use Rattle.judgement.specs.Sheet.{variables}
 use Rattle.judgement.specs.Linear.{remainder, total_of}
 use Rattle.checker.specs.Weighing.{Weighing, full_of}

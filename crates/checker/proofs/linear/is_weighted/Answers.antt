@@ -1,4 +1,4 @@
-use Rattle.std.proofs.Common.{◌≡◌, ◌-◌, true, refl, arith}
+use Rattle.std.proofs.Common.{◌≡◌, refl, arith}
 use Rattle.judgement.specs.Scan.{all_of}
 use Rattle.judgement.specs.Step.{entry_count}
 use Rattle.checker.proofs.Totals.{divisor_zero, weight_zero, weights_more, weights_all}

@@ -1,6 +1,6 @@
 -- `checker::linear::meet` meets its contract: the number that was kept, or where it begins, is moved by the literal's weight.
 -- Assumes nothing.
-use Rattle.std.proofs.Common.{◌≡◌, ℕ, ◌+◌, ◌-◌, ◌*◌, ◌/◌, ◌%◌, ◌^◌, ◌<◌, ◌≤◌, List, cond, eqb, ℤ, pos, nat_abs, refl, ◌∙◌, arith, eq-eqb, ne_eqb}
+use Rattle.std.proofs.Common.{◌≡◌, ℕ, ◌+◌, ◌-◌, ◌*◌, ◌/◌, ◌%◌, ◌^◌, ◌<◌, List, cond, eqb, ℤ, pos, nat_abs, refl, ◌∙◌, arith, eq-eqb, ne_eqb}
 use native.Mathlib.Decide.{ℕ_discrete}
 use Rattle.checker.specs.Marks.{mark_at}
 use Rattle.checker.specs.Prices.{price_at}
@@ -45,20 +45,20 @@ overflow_mul-w c =
 pub shifted-new-requires : goal.shifted-new-requires
 shifted-new-requires c =
     let e = old-is c.args.marks.now c.args.rest.now (c.args.c / 2) c.args.t (c.args.d * price_at c.args.prices.now (2 * (c.args.c / 2) + 1))
-        (c.requires.0.below (c.args.c / 2 - 1)) c.requires.1
-        (held (rest_at c.args.rest.now (c.args.c / 2 - 1)) c.kept-1.given)
-        (held c.natural-full.result c.natural-full.type_inv ∙ c.natural-full.ensures)
-        c.wrapping_sub_u64-stale.type_inv c.wrapping_sub_u64-stale.ensures.value c.one_of-old.ensures in
+    (c.requires.0.below (c.args.c / 2 - 1)) c.requires.1
+    (held (rest_at c.args.rest.now (c.args.c / 2 - 1)) c.kept-1.given)
+    (held c.natural-full.result c.natural-full.type_inv ∙ c.natural-full.ensures)
+    c.wrapping_sub_u64-stale.type_inv c.wrapping_sub_u64-stale.ensures.value c.one_of-old.ensures in
     rw (held c.one_of-old.result c.one_of-old.type_inv, e) (c.requires.8, weight_small c.args.c c.args.y c.requires.6, c.requires.6)
 
 pub gained-requires : goal.gained-requires
 gained-requires c =
     let old = c.one_of-old.result in
     let e = old-is c.args.marks.now c.args.rest.now (c.args.c / 2) c.args.t (c.args.d * price_at c.args.prices.now (2 * (c.args.c / 2) + 1))
-        (c.requires.0.below (c.args.c / 2 - 1)) c.requires.1
-        (held (rest_at c.args.rest.now (c.args.c / 2 - 1)) c.kept-1.given)
-        (held c.natural-full.result c.natural-full.type_inv ∙ c.natural-full.ensures)
-        c.wrapping_sub_u64-stale.type_inv c.wrapping_sub_u64-stale.ensures.value c.one_of-old.ensures in
+    (c.requires.0.below (c.args.c / 2 - 1)) c.requires.1
+    (held (rest_at c.args.rest.now (c.args.c / 2 - 1)) c.kept-1.given)
+    (held c.natural-full.result c.natural-full.type_inv ∙ c.natural-full.ensures)
+    c.wrapping_sub_u64-stale.type_inv c.wrapping_sub_u64-stale.ensures.value c.one_of-old.ensures in
     let h : nat_abs old < 2 ^ 60 = rw e c.requires.8 in
     let w = weight_small c.args.c c.args.y c.requires.6 in
     let s = shifted_size old (c.args.c % 2 * c.args.y) c.args.y in
@@ -68,10 +68,10 @@ gained-requires c =
 pub returns : goal.returns
 returns c =
     let e = old-is c.args.marks.now c.args.rest.now (c.args.c / 2) c.args.t (c.args.d * price_at c.args.prices.now (2 * (c.args.c / 2) + 1))
-        (c.requires.0.below (c.args.c / 2 - 1)) c.requires.1
-        (held (rest_at c.args.rest.now (c.args.c / 2 - 1)) c.kept-1.given)
-        (held c.natural-full.result c.natural-full.type_inv ∙ c.natural-full.ensures)
-        c.wrapping_sub_u64-stale.type_inv c.wrapping_sub_u64-stale.ensures.value c.one_of-old.ensures in
+    (c.requires.0.below (c.args.c / 2 - 1)) c.requires.1
+    (held (rest_at c.args.rest.now (c.args.c / 2 - 1)) c.kept-1.given)
+    (held c.natural-full.result c.natural-full.type_inv ∙ c.natural-full.ensures)
+    c.wrapping_sub_u64-stale.type_inv c.wrapping_sub_u64-stale.ensures.value c.one_of-old.ensures in
     let old = held c.one_of-old.result c.one_of-old.type_inv ∙ e in
     let new = held c.shifted-new.result c.shifted-new.type_inv ∙ c.shifted-new.ensures ∙ shift_by (again c.one_of-old.result) c.args.c c.args.y in
     let told = held c.gained.result c.gained.type_inv ∙ c.gained.ensures in

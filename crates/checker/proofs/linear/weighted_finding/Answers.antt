@@ -14,15 +14,14 @@ returns-then-not-is_weighted c =
     record { stale = ((stale_later (omega arith) c.requires.3, c.requires.4)); finding = (weights_fault c.args.s.now c.args.b.now c.args.k c.whole_tail-tail.ensures c.is_weighted.ensures c.if-not-is_weighted.true-raw) }
 
 pub bound_by-requires : goal.bound_by-requires
-bound_by-requires c =
-    (
-      weighable_as c.args.s.now (literals c.args.b.now) (tail c.args.b.now) c.whole_literals-list.ensures c.whole_tail-tail.ensures c.requires.0,
-      c.requires.2,
-      divisor_some c.whole_tail-tail.result.now c.is_weighted.ensures c.if-not-is_weighted.false-raw,
-      c.requires.3,
-      c.requires.4,
-      omega arith,
-    )
+bound_by-requires c = (
+  weighable_as c.args.s.now (literals c.args.b.now) (tail c.args.b.now) c.whole_literals-list.ensures c.whole_tail-tail.ensures c.requires.0,
+  c.requires.2,
+  divisor_some c.whole_tail-tail.result.now c.is_weighted.ensures c.if-not-is_weighted.false-raw,
+  c.requires.3,
+  c.requires.4,
+  omega arith,
+)
 
 pub returns-then-whole_bound-bound_by : goal.returns-then-whole_bound-bound_by
 returns-then-whole_bound-bound_by c =

@@ -1,4 +1,4 @@
-use Rattle.std.proofs.Common.{◌+◌, ◌-◌, arith}
+use Rattle.std.proofs.Common.{◌+◌, arith}
 use Rattle.judgement.specs.Literals.{count}
 use Rattle.checker.specs.Marks.{mark_at}
 use Rattle.checker.proofs.Marking.{join_none, joined_to}

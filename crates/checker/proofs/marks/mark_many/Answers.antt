@@ -1,4 +1,4 @@
-use Rattle.std.proofs.Common.{◌+◌, ◌-◌, arith}
+use Rattle.std.proofs.Common.{◌+◌, arith}
 use Rattle.judgement.specs.Literals.{count, holds}
 use Rattle.checker.proofs.Marking.{mark_none, marked_to}
 use Rattle.checker.proofs.marks.mark_many.Goals as goal

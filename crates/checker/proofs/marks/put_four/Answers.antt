@@ -19,9 +19,12 @@ returns c =
     let l = c.requires.1 in
     let size-1 = put_size c.put.ensures c.requires.0 in
     let size-2 = put_size c.put-2.ensures size-1 in
-    let size-3 = put_size c.put-3.ensures size-2 in record { size = (put_size c.put-4.ensures size-3); each = (λ before j h m.
+    let size-3 = put_size c.put-3.ensures size-2 in record {
+      size = (put_size c.put-4.ensures size-3);
+      each = (λ before j h m.
           let m_1 = put_on c.put.ensures l (omega arith) c.requires.0 h m in
           let m_2 = put_on c.put-2.ensures l (omega arith) size-1 (omega arith) m_1 in
           let m_3 = put_on c.put-3.ensures l (omega arith) size-2 (omega arith) m_2 in
           let m-4 = put_on c.put-4.ensures l (omega arith) size-3 (omega arith) m_3 in
-          marked_to (omega arith) m-4) }
+          marked_to (omega arith) m-4);
+    }

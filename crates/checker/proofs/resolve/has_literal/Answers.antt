@@ -1,4 +1,4 @@
-use Rattle.std.proofs.Common.{◌≡◌, ◌+◌, ◌-◌, false, sym, refl, ◌∙◌, arith, eq-eqb, ne_eqb}
+use Rattle.std.proofs.Common.{◌≡◌, ◌+◌, sym, refl, ◌∙◌, arith, eq-eqb, ne_eqb}
 use Rattle.judgement.specs.Scan.{any_of}
 use Rattle.judgement.specs.Literals.{count, holds}
 use Rattle.judgement.proofs.Laws.Scan.{any_at}

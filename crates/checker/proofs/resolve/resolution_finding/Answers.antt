@@ -49,7 +49,10 @@ resolvent_finding-requires c =
 
 pub returns : goal.returns
 returns c =
-    let h = c.requires in record { stale = (c.resolvent_finding.ensures.stale); finding = (c.resolvent_finding.ensures.finding
+    let h = c.requires in record {
+      stale = (c.resolvent_finding.ensures.stale);
+      finding = (c.resolvent_finding.ensures.finding
           ∙ form_more _ _ _ c.form_finding-form.ensures c.is_fine.ensures _ c.if-not-is_fine.false-raw
           ∙ sym (resolution_is _ _ _ _ h.1 h.2 c.whole_cited.ensures (step_at _ _ _ h.4 c.body_at-x.ensures)
-          c.whole_cited-2.ensures (step_at _ _ _ h.4 c.body_at-y.ensures))) }
+          c.whole_cited-2.ensures (step_at _ _ _ h.4 c.body_at-y.ensures)));
+    }

@@ -26,13 +26,19 @@ resolve-requires c =
 
 pub returns-then-not-resolve : goal.returns-then-not-resolve
 returns-then-not-resolve c =
-    let a = c.args in record { finding = (c.resolve_fault.ensures
+    let a = c.args in record {
+      finding = (c.resolve_fault.ensures
           ∙ resolve_fault a.x.now a.y.now a.b.now a.k c.whole_literals-a.ensures c.whole_literals-c.ensures
-          c.whole_literals-d.ensures c.whole_pivot-p.ensures.0 c.resolve.ensures.resolves (not-true _ c.if-not-resolve.true-raw)); stale = (c.resolve.ensures.stale) }
+          c.whole_literals-d.ensures c.whole_pivot-p.ensures.0 c.resolve.ensures.resolves (not-true _ c.if-not-resolve.true-raw));
+      stale = (c.resolve.ensures.stale);
+    }
 
 pub returns : goal.returns
 returns c =
-    let a = c.args in record { finding = (rw
+    let a = c.args in record {
+      finding = (rw
           (bounds_left a.x.now a.y.now a.b.now a.k c.whole_literals-a.ensures c.whole_literals-c.ensures
           c.whole_literals-d.ensures c.whole_pivot-p.ensures.0 c.resolve.ensures.resolves (not-false _ c.if-not-resolve.false-raw))
-          c.bound_finding.ensures); stale = (c.resolve.ensures.stale) }
+          c.bound_finding.ensures);
+      stale = (c.resolve.ensures.stale);
+    }

@@ -1,8 +1,8 @@
 -- `checker::signed::rounded_up` meets its contract: where the total is positive, the quotient of two positive numbers rounds down, and d - 1
 -- more rounds up.
 -- Assumes nothing.
-use Rattle.std.proofs.Common.{◌+◌, ◌-◌, ◌/◌, pos, nat_abs, arith}
-use Rattle.checker.proofs.Bits.{small, not_positive, positive_total, less_one, sum_read, quotient_read, quotient_small, quotient_casts, rounded_read}
+use Rattle.std.proofs.Common.{◌+◌, ◌-◌, pos, nat_abs, arith}
+use Rattle.checker.proofs.Bits.{small, not_positive, positive_total, less_one, sum_read, quotient_casts, rounded_read}
 use Rattle.checker.proofs.signed.rounded_up.Goals as goal
 
 pub returns-then-total-le0 : goal.returns-then-total-le0
@@ -23,7 +23,6 @@ overflow_add-result c =
     let p = c.requires in
     let e = positive_total a.total (omega (arith, p.0)) c.if-total-le0.false in
     rw (sum_read a.total (nat_abs a.total) a.d e p.0 p.1 p.2) (small (pos (nat_abs a.total + (a.d - 1))) (omega (arith, p)))
-
 
 pub overflow_cast-result : goal.overflow_cast-result
 overflow_cast-result c =

@@ -38,18 +38,27 @@ linear_finding-requires c =
 
 pub returns-in-Copy : goal.returns-in-Copy
 returns-in-Copy c =
-    let h = c.requires in record { stale = ((stale_later (omega arith) h.1, (λ fine. stale_later (omega arith) h.2), h.3)); finding = (copy_is _ _ _ _ (step_at _ _ _ h.5 c.body_at-b.ensures) (sym c.kind_of-kind.ensures ∙ c.in-Copy.is)
-          c.copy_finding.ensures) }
+    let h = c.requires in record {
+      stale = ((stale_later (omega arith) h.1, (λ fine. stale_later (omega arith) h.2), h.3));
+      finding = (copy_is _ _ _ _ (step_at _ _ _ h.5 c.body_at-b.ensures) (sym c.kind_of-kind.ensures ∙ c.in-Copy.is)
+          c.copy_finding.ensures);
+    }
 
 pub returns-in-Cost : goal.returns-in-Cost
 returns-in-Cost c =
-    let h = c.requires in record { stale = ((stale_later (omega arith) h.1, (λ fine. stale_later (omega arith) h.2), h.3)); finding = (cost_is _ _ _ _ (step_at _ _ _ h.5 c.body_at-b.ensures) (sym c.kind_of-kind.ensures ∙ c.in-Cost.is)
-          c.cost_finding.ensures) }
+    let h = c.requires in record {
+      stale = ((stale_later (omega arith) h.1, (λ fine. stale_later (omega arith) h.2), h.3));
+      finding = (cost_is _ _ _ _ (step_at _ _ _ h.5 c.body_at-b.ensures) (sym c.kind_of-kind.ensures ∙ c.in-Cost.is)
+          c.cost_finding.ensures);
+    }
 
 pub returns-in-IndependentSet : goal.returns-in-IndependentSet
 returns-in-IndependentSet c =
-    let h = c.requires in record { stale = ((stale_later (omega arith) h.1, c.independent_finding.ensures.stale, h.3)); finding = (independent_is _ _ _ _ (step_at _ _ _ h.5 c.body_at-b.ensures) (sym c.kind_of-kind.ensures ∙ c.in-IndependentSet.is)
-          c.independent_finding.ensures.finding) }
+    let h = c.requires in record {
+      stale = ((stale_later (omega arith) h.1, c.independent_finding.ensures.stale, h.3));
+      finding = (independent_is _ _ _ _ (step_at _ _ _ h.5 c.body_at-b.ensures) (sym c.kind_of-kind.ensures ∙ c.in-IndependentSet.is)
+          c.independent_finding.ensures.finding);
+    }
 
 pub returns-in-Resolvent : goal.returns-in-Resolvent
 returns-in-Resolvent c =
@@ -59,8 +68,11 @@ returns-in-Resolvent c =
 pub returns-in-WeightedSet : goal.returns-in-WeightedSet
 returns-in-WeightedSet c =
     let h = c.requires in
-    let kept = c.linear_finding.ensures.stale in record { stale = ((stale_later (omega arith) h.1, (λ fine. stale_later (omega arith) kept.0), kept.1)); finding = (linear_is _ _ _ _ (step_at _ _ _ h.5 c.body_at-b.ensures) (sym c.kind_of-kind.ensures ∙ c.in-WeightedSet.is)
-          c.linear_finding.ensures.finding) }
+    let kept = c.linear_finding.ensures.stale in record {
+      stale = ((stale_later (omega arith) h.1, (λ fine. stale_later (omega arith) kept.0), kept.1));
+      finding = (linear_is _ _ _ _ (step_at _ _ _ h.5 c.body_at-b.ensures) (sym c.kind_of-kind.ensures ∙ c.in-WeightedSet.is)
+          c.linear_finding.ensures.finding);
+    }
 
 pub returns-in-Unknown : goal.returns-in-Unknown
 returns-in-Unknown c =
