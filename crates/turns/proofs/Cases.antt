@@ -15,7 +15,6 @@ use Rattle.judgement.specs.Literals.{mentions, rises_at, rises, literals_fine}
 use Rattle.judgement.specs.Sheet.{marked, variables, loss_size, sheet_head, sheet_pairs, clause_form, sheet_finding, alone_finding}
 use Rattle.judgement.specs.Writer.{bytes_of, numbers_of, pairs_of, joined, file_of, sheet_of}
 use Rattle.judgement.proofs.Cases.Starred.{sheet_a}
-use Rattle.turns.specs.declared.Turned.{Turned}
 use Rattle.turns.specs.Turning.{index_of, true_in, counts_of, broken_total, value_in, switched, turn, turned, Lent, lent, index_size, has_room, no_room, wrong_turn, lent_finding, turn_finding, turning, left}
 
 -- sheet A has the clauses 1 or 2, and 1 or not 2: both are in both lists

@@ -15,7 +15,6 @@ use Rattle.judgement.specs.Literals.{code, count, holds, mentions, variable}
 use Rattle.judgement.specs.Meaning.{Assignment, is_positive, literal_true, positive, variable_of}
 use Rattle.judgement.specs.Record.{satisfied}
 use Rattle.judgement.specs.Scan.{any_of, one, sum_of}
-use Rattle.judgement.specs.Sheet.{variables}
 use Rattle.judgement.proofs.Laws.Membership.{holds_in, in_holds, mentions_in}
 use Rattle.judgement.proofs.Laws.Scan.{any_at, clash, sum_apart, sum_bound, sum_same, which}
 use Rattle.turns.specs.Counts.{agrees, goes_up}

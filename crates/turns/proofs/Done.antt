@@ -8,13 +8,11 @@ use mathlib.Core.Logic.{◌↔◌, ◌⊎◌, inl, inr}
 use native.Mathlib.Nat.{zero-add}
 use native.Mathlib.Omega.{arith}
 use borrow.Author.Tests.{eq-eqb, eqb-false, eqb-true, ne_eqb}
-use borrow.Fn.PlainCycle.{is}
 use lib.Dec.{eqb}
 use lib.ListN.{get_or-append, drop, get_or, length, set}
 use lib.Seq.{drop-append_seam, get_or_at, take-append_seam, take-length}
 use Rattle.judgement.specs.Buffer.{over}
 use Rattle.judgement.specs.Facts.{Among, Mentions, PairRule, Rising, ValidSheet}
-use Rattle.judgement.specs.Judgement.{passes}
 use Rattle.judgement.specs.Literals.{holds, mentions}
 use Rattle.judgement.specs.Meaning.{Assignment, Model, Satisfies}
 use Rattle.judgement.specs.Number.{number_at}
@@ -29,7 +27,6 @@ use Rattle.judgement.proofs.Complete.Bytes.{length_numbers}
 use Rattle.judgement.proofs.Complete.Tables.{file_body, file_pairs, length_file}
 use Rattle.judgement.proofs.Laws.Buffer.{length_over}
 use Rattle.turns.proofs.Chosen.{chosen_at, count_grows, count_rises, length_chosen}
-use Rattle.judgement.proofs.Laws.Cost.{within}
 use Rattle.judgement.proofs.Laws.Membership.{in_mentions, mentions_in}
 use Rattle.judgement.proofs.Laws.Models.{satisfied_satisfies, satisfies_satisfied}
 use Rattle.judgement.proofs.Laws.Patch.{at_numbers}

@@ -9,14 +9,13 @@ use native.Mathlib.Omega.{arith}
 use lib.ListN.{length, length-append}
 use Rattle.judgement.specs.Buffer.{At, Kept, patch}
 use Rattle.judgement.specs.Facts.{Among}
-use Rattle.judgement.specs.Literals.{variable}
 use Rattle.judgement.specs.Number.{number_at}
 use Rattle.judgement.specs.Writer.{bytes_of, numbers_of}
 use Rattle.judgement.proofs.Complete.Bytes.{length_bytes, length_numbers}
 use Rattle.judgement.proofs.Laws.Patch.{at_append, at_left, at_number, at_right, length_patch, patch_kept, patch_other, patch_same}
 use Rattle.judgement.proofs.Laws.Scan.{sum_last, sum_part}
 use Rattle.judgement.proofs.Laws.Stored.{numbers_end}
-use Rattle.turns.specs.Index.{Lists, Takes, filed, raised, start_of}
+use Rattle.turns.specs.Index.{Lists, Takes, filed, start_of}
 use Rattle.turns.proofs.Lists.{either}
 
 -- ---- where lists begin

@@ -9,7 +9,6 @@ use native.Mathlib.Omega.{arith}
 use lib.ListN.{length, length-append}
 use Rattle.judgement.specs.Buffer.{At, Kept, patch}
 use Rattle.judgement.specs.Facts.{Among}
-use Rattle.judgement.specs.Literals.{variable}
 use Rattle.judgement.specs.Number.{number_at}
 use Rattle.judgement.specs.Writer.{bytes_of, numbers_of}
 use Rattle.judgement.proofs.Complete.Bytes.{length_bytes}

@@ -8,7 +8,6 @@ use native.Mathlib.Omega.{arith}
 use Rattle.judgement.specs.Buffer.{patch}
 use Rattle.judgement.specs.Number.{number_at}
 use Rattle.judgement.specs.Writer.{bytes_of}
-use Rattle.judgement.proofs.Laws.Integers.{up}
 use Rattle.turns.specs.Counts.{Steps, Touched, at_zero, stepped}
 
 pub touch_steps : {up b : Bool} {x y total : ℕ} → b ≡ up → y ≡ x → Steps up x total

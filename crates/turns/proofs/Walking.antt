@@ -13,7 +13,6 @@ use lib.Dec.{eqb, leb}
 use lib.ListN.{get_or, length, length-map}
 use Rattle.judgement.specs.Buffer.{At, Kept, over, patch}
 use Rattle.judgement.specs.Facts.{Among, ValidSheet}
-use Rattle.judgement.specs.Judgement.{passes}
 use Rattle.judgement.specs.Literals.{mentions}
 use Rattle.judgement.specs.Meaning.{Assignment}
 use Rattle.judgement.specs.Number.{number_at}

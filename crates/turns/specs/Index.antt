@@ -6,7 +6,7 @@ use Rattle.turns.specs.Listed.{chosen}
 use Rattle.judgement.specs.Meaning.{positive}
 use Rattle.judgement.specs.Number.{number_at}
 use Rattle.judgement.specs.Literals.{holds, mentions}
-use Rattle.judgement.specs.Sheet.{variables, clauses, clause}
+use Rattle.judgement.specs.Sheet.{variables, clause}
 use Rattle.judgement.specs.Writer.{bytes_of, numbers_of}
 use Rattle.judgement.specs.Buffer.{At, patch}
 use Rattle.judgement.specs.Facts.{Among}
