@@ -4,7 +4,9 @@
 
 ghost use Rattle.print.specs.Reading.{Read};
 
-use libc::STDOUT_FILENO;
+use std::fs::File;
+use std::io;
+use std::rt::Files;
 
 // The most bytes of a file that is judged.
 const MOST: usize = 65536;
@@ -12,7 +14,7 @@ const MOST: usize = 65536;
 // One byte more, so that a full buffer is a file that is too long.
 const SPACE: usize = MOST + 1;
 
-#[derive(Drop)]
+#[derive(Clone, Copy)]
 enum Ending {
     Whole,
     TooLong,
@@ -20,99 +22,94 @@ enum Ending {
 }
 
 // How reading a file ended, and how many of its bytes stand at the start of the buffer.
-#[derive(Drop)]
+#[derive(Clone, Copy)]
 struct Reading {
     ending: Ending,
     size: usize,
 }
 
-// Reads until the buffer is full or reading stops. It stops at the end of the file or at a failure, and one more read tells
-// which: only at the end does it answer 0.
-fn read_all(fd: i32, buf: &mut [u8]) -> Reading
+// Reads until the buffer is full, the input ends or a read fails.
+fn read_all<R: io::Read>(reader: &mut R, buf: &mut [u8]) -> Reading
     ensures { Read result buf.new }
 {
-    let size = io::read_full(fd, buf);
-    if size == buf.len() {
-        return Reading {
-            ending: Ending::TooLong,
-            size: size,
-        };
-    }
-    let mut rest = [0u8; 1];
-    if libc::read(fd, &mut rest) != 0 {
-        return Reading {
-            ending: Ending::Unreadable,
-            size: size,
-        };
+    let mut size = 0;
+    while size < buf.len() {
+        match reader.read(&mut buf[size..]) {
+            Ok(0) => {
+                return Reading {
+                    ending: Ending::Whole,
+                    size,
+                };
+            }
+            Ok(n) => size += n,
+            Err(_) => {
+                return Reading {
+                    ending: Ending::Unreadable,
+                    size,
+                };
+            }
+        }
     }
     Reading {
-        ending: Ending::Whole,
-        size: size,
+        ending: Ending::TooLong,
+        size,
     }
 }
 
 // Reads the file of this name.
-fn read_file(name: &[u8], buf: &mut [u8]) -> Reading
+fn read_file<R: Files>(rt: &R, name: &str, buf: &mut [u8]) -> Reading
     ensures { Read result buf.new }
 {
-    let fd = os::open_read(name);
-    if fd < 0 {
-        return Reading {
+    match File::open(rt, name) {
+        Ok(mut file) => read_all(&mut file, buf),
+        Err(_) => Reading {
             ending: Ending::Unreadable,
             size: 0,
-        };
+        },
     }
-    let reading = read_all(fd, buf);
-    libc::close(fd);
-    reading
 }
 
-fn say(words: &[u8], name: &[u8]) {
-    io::write_all(STDOUT_FILENO, words);
-    io::write_all(STDOUT_FILENO, name);
-    io::write_all(STDOUT_FILENO, b"\n");
+fn say<R: Print>(rt: &R, words: &str, name: &str) -> io::Result<()> {
+    println!(rt; "{words} {name}")
 }
 
 // Prints why a file cannot be judged, and answers whether there is a reason.
-fn complains(name: &[u8], reading: Reading) -> bool {
-    let ending = reading.ending;
-    match ending {
-        Ending::Whole => false,
+fn complains<R: Print>(rt: &R, name: &str, reading: Reading) -> io::Result<bool> {
+    match reading.ending {
+        Ending::Whole => Ok(false),
         Ending::TooLong => {
-            say(b"too long ", name);
-            true
+            say(rt, "too long", name)?;
+            Ok(true)
         }
         Ending::Unreadable => {
-            say(b"cannot read ", name);
-            true
+            say(rt, "cannot read", name)?;
+            Ok(true)
         }
     }
 }
 
 // Where both files fail, the sheet's message alone.
-fn complains_once(sheet: Reading, record: Reading) -> bool {
-    if complains(b"sheet", sheet) {
-        return true;
+fn complains_once<R: Print>(rt: &R, sheet: Reading, record: Reading) -> io::Result<bool> {
+    if complains(rt, "sheet", sheet)? {
+        return Ok(true);
     }
-    complains(b"record", record)
+    complains(rt, "record", record)
 }
 
-fn print_answer(sheet: &[u8], record: &[u8]) {
+fn print_answer<R: Print>(rt: &R, sheet: &[u8], record: &[u8]) -> io::Result<()> {
     let answer = checker::judge(sheet, record);
     let mut text = [0u8; lines::LINE];
     let size = lines::line(answer, &mut text);
-    io::write_all(STDOUT_FILENO, &text[..size]);
+    rt.write_all(&text[..size])
 }
 
-fn main() {
+fn main(rt: HostRuntime) -> io::Result<()> {
     let mut sheet = [0u8; SPACE];
     let mut record = [0u8; SPACE];
-    let of_sheet = read_file(b"sheet", &mut sheet);
-    let of_record = read_file(b"record", &mut record);
-    if complains_once(of_sheet, of_record) {
-        return;
+    let of_sheet = read_file(&rt, "sheet", &mut sheet);
+    let of_record = read_file(&rt, "record", &mut record);
+    if complains_once(&rt, of_sheet, of_record)? {
+        return Ok(());
     }
-    let n = of_sheet.size;
-    let m = of_record.size;
-    print_answer(&sheet[..n], &record[..m]);
+    print_answer(&rt, &sheet[..of_sheet.size], &record[..of_record.size])
 }
