@@ -2,6 +2,7 @@
 // not be judged.
 #![tactic(auto)]
 
+ghost use Rattle.io.specs.Counts.{IsPrefixLen};
 ghost use Rattle.print.specs.Reading.{Read};
 
 use std::fs::File;
@@ -28,31 +29,43 @@ struct Reading {
     size: usize,
 }
 
-// Reads until the buffer is full, the input ends or a read fails.
-fn read_all<R: io::Read>(reader: &mut R, buf: &mut [u8]) -> Reading
-    ensures { Read result buf.new }
+// Reads until the buffer is full or reading stops, and answers how many bytes were read.
+fn read_full<R: io::Read>(reader: &mut R, buf: &mut [u8]) -> usize
+    ensures { IsPrefixLen result buf.new }
 {
     let mut size = 0;
     while size < buf.len() {
         match reader.read(&mut buf[size..]) {
-            Ok(0) => {
-                return Reading {
-                    ending: Ending::Whole,
-                    size,
-                };
-            }
+            Ok(0) => return size,
             Ok(n) => size += n,
-            Err(_) => {
-                return Reading {
-                    ending: Ending::Unreadable,
-                    size,
-                };
-            }
+            Err(_) => return size,
         }
     }
-    Reading {
-        ending: Ending::TooLong,
-        size,
+    size
+}
+
+// Reads until the buffer is full or reading stops. It stops at the end of the file or at a failure, and one more read tells
+// which: only at the end does it answer 0.
+fn read_all<R: io::Read>(reader: &mut R, buf: &mut [u8]) -> Reading
+    ensures { Read result buf.new }
+{
+    let size = read_full(reader, buf);
+    if size == buf.len() {
+        return Reading {
+            ending: Ending::TooLong,
+            size,
+        };
+    }
+    let mut rest = [0u8; 1];
+    match reader.read(&mut rest) {
+        Ok(0) => Reading {
+            ending: Ending::Whole,
+            size,
+        },
+        _ => Reading {
+            ending: Ending::Unreadable,
+            size,
+        },
     }
 }
 

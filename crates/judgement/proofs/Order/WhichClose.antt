@@ -10,7 +10,6 @@ use lib.Dec.{eqb, leb}
 use borrow.Author.Tests.{ne_eqb, leb-true, not-true}
 use Rattle.judgement.specs.declared.Finding.{Finding}
 use Rattle.judgement.specs.declared.Finding.TheVariants.{Fault}
-use Rattle.judgement.specs.Finding.{◌then◌}
 use Rattle.judgement.specs.Record.{steps}
 use Rattle.judgement.specs.declared.Kind.{Kind}
 use Rattle.judgement.specs.Kinds.{kind_finding}
