@@ -1,4 +1,4 @@
-/* The proved plan checker. Link with the static library that `rt staticlib exports` writes.
+/* The proved plan checker. Link with the static library that `tools/staticlib` writes.
  *
  * A file is its bytes and their number; any bytes are answered for, also none: with the number 0 nothing is read through the
  * pointer, which may be NULL. The calls only read the files, keep nothing, and may be made from several threads at once. The

@@ -1,7 +1,7 @@
 /* Judges a record from C: prints the answer's line; exits with 0 for an acceptance, which is `least` or `none`, 1 for a refusal,
  * 2 where it cannot tell, and 3 for `within`: a plan with a gap, neither accepted nor refused.
  *
- * Build, at the repository's root, after `rt staticlib exports`:
+ * Build, at the repository's root, after `tools/staticlib`:
  *
  *     cc -std=c11 -O2 -Iinclude -o judge bindings/c/judge.c target/staticlib/libexports.a
  */

@@ -1,7 +1,7 @@
 /* Searches a sheet for its best plan from C: prints the plan's true variables, what is known of the least cost, and whether the
  * search has ended. Exits with 0 for an answer, 1 for a refusal, and 2 where it cannot tell.
  *
- * Build, at the repository's root, after `rt staticlib exports`:
+ * Build, at the repository's root, after `tools/staticlib`:
  *
  *     cc -std=c11 -O2 -Iinclude -o search bindings/c/search.c target/staticlib/libexports.a
  */

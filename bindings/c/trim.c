@@ -2,7 +2,7 @@
  * gap too, 1 for a refusal, of which it prints the line and leaves the other file alone, and 2 where it cannot. The other file is
  * written where it stands, so that little of it may be left then: it should not be the only copy of a record.
  *
- * Build, at the repository's root, after `rt staticlib exports`:
+ * Build, at the repository's root, after `tools/staticlib`:
  *
  *     cc -std=c11 -O2 -Iinclude -o trim bindings/c/trim.c target/staticlib/libexports.a
  */

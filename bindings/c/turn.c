@@ -1,7 +1,7 @@
 /* Turns variables of a sheet from C, beginning with all of them false: prints how many clauses are broken then, and the number of
  * each. Exits with 0 for that answer, 1 for a refusal, and 2 where it cannot tell.
  *
- * Build, at the repository's root, after `rt staticlib exports`:
+ * Build, at the repository's root, after `tools/staticlib`:
  *
  *     cc -std=c11 -O2 -Iinclude -o turn bindings/c/turn.c target/staticlib/libexports.a
  */

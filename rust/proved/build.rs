@@ -1,4 +1,4 @@
-//! Links the proved checker. `rt staticlib exports`, run at the repository's root, writes the library.
+//! Links the proved checker. `tools/staticlib`, run at the repository's root, writes the library.
 
 use std::path::Path;
 
@@ -8,7 +8,7 @@ fn main() {
     let library = folder.join("libexports.a");
     println!("cargo:rerun-if-changed={}", library.display());
     if !library.exists() {
-        panic!("the proved checker's library is missing: run `rt staticlib exports` at the repository's root first");
+        panic!("the proved checker's library is missing: run `tools/staticlib` at the repository's root first");
     }
     println!("cargo:rustc-link-search=native={}", folder.display());
     println!("cargo:rustc-link-lib=static=exports");

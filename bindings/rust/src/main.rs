@@ -1,7 +1,7 @@
 //! Judges a record from Rust: prints the answer's line; exits with 0 for an acceptance, which is `least` or `none`, 1 for a
 //! refusal, 2 where it cannot tell, and 3 for `within`: a plan with a gap, neither accepted nor refused.
 //!
-//! Run, in this folder, after `rt staticlib exports` at the repository's root:
+//! Run, in this folder, after `tools/staticlib` at the repository's root:
 //!
 //!     cargo run --offline -- SHEET RECORD
 

@@ -124,9 +124,9 @@ const HEAD: &str = "\
 -- Generated: the reference checker's answers, computed again from the definitions.
 -- Assumes nothing.
 use lib.Dec.{T}
-use Rattle·judgement.specs.Writer.{bytesOf}
-use Rattle·judgement.specs.Judgement.{refused}
-use Rattle·judgement.specs.Computed.{accepted, within, right, shows}
+use Rattle.judgement.specs.Writer.{bytes_of}
+use Rattle.judgement.specs.Judgement.{refused}
+use Rattle.judgement.specs.Computed.{accepted, within, right, shows}
 ";
 
 fn theorem(text: &mut String, i: usize, case: &Case) {
@@ -135,8 +135,8 @@ fn theorem(text: &mut String, i: usize, case: &Case) {
     writeln!(text, "\n-- {}", case.aimed).unwrap();
     writeln!(
         text,
-        "case-{i} : T (right (record {{ sheet = {sheet}; «record» = {record}; answer = {answer} }}))\n\
-         unfolding bytesOf right\ncase-{i} = tt"
+        "case_{i} : T (right (record {{ sheet = {sheet}; «record» = {record}; answer = {answer} }}))\n\
+         unfolding bytes_of right\ncase_{i} = tt"
     )
     .unwrap();
     // every step number in turn, and those around, of a record that is not refused; of a refused one some number
@@ -145,7 +145,7 @@ fn theorem(text: &mut String, i: usize, case: &Case) {
     if !case.answer.refuses() || i.is_multiple_of(8) {
         writeln!(
             text,
-            "\nshown-{i} : T (shows ({sheet}) ({record}) {step} ({part}))\nunfolding bytesOf shows\nshown-{i} = tt"
+            "\nshown_{i} : T (shows ({sheet}) ({record}) {step} ({part}))\nunfolding bytes_of shows\nshown_{i} = tt"
         )
         .unwrap();
     }
@@ -162,7 +162,7 @@ fn answer(a: &Answer) -> String {
 
 /// A list of bytes as one number, lowest byte first: a long list costs the prover more to read than to compute.
 fn bytes(list: &[u8]) -> String {
-    let mut text = format!("bytesOf {} 0x0", list.len());
+    let mut text = format!("bytes_of {} 0x0", list.len());
     for b in list.iter().rev() {
         write!(text, "{b:02x}").unwrap();
     }

@@ -66,11 +66,11 @@ fn the_head_has_every_name() {
 fn steps_are_shown_unless_the_record_is_refused() {
     for (name, wanted) in [("A1", true), ("B2", true), ("A4", true), ("C1", false)] {
         let module = module(&[case(name)]);
-        assert_eq!(module.contains("shown-1 : T (shows ("), wanted, "{name}");
+        assert_eq!(module.contains("shown_1 : T (shows ("), wanted, "{name}");
     }
     let Case { sheet, record, .. } = case("A4");
     assert_eq!(show(&sheet, &record, 1), &sheet[28..32]);
-    assert!(module(&[case("A4")]).contains(" 1 (bytesOf 4 0x000040002))"));
+    assert!(module(&[case("A4")]).contains(" 1 (bytes_of 4 0x000040002))"));
 }
 
 #[test]

@@ -1,5 +1,5 @@
-//! The printing program, run in folders of its own: every printed form and every message. `rt check print`, at the
-//! repository's root, builds it.
+//! The printing program, run in folders of its own: every printed form and every message. `rt run`, in `crates/print`, builds
+//! it, and so does `rt ci` at the repository's root.
 
 use reference::Verdict;
 use samples::examples::{example, examples, Example, COUNT};
@@ -39,10 +39,10 @@ impl Folder {
     }
 
     fn printed(&self) -> String {
-        let program = root().join("target/bin/print");
+        let program = root().join("crates/print/out/print");
         assert!(
             program.exists(),
-            "the program is missing: run `rt check print` at the repository's root first"
+            "the program is missing: run `rt run` in crates/print first"
         );
         let output = Command::new(program).current_dir(&self.0).output().unwrap();
         String::from_utf8(output.stdout).unwrap()
