@@ -16,7 +16,7 @@ import sys
 TOKEN = re.compile(r"[^\s(){}\[\];,.λ|:=\"`]+")
 NAME = r"[^\s(){};,:.λ=|\"]+"
 # a signature, as `pub a b : T`, or a head with parameters, as `record R (x : T) : ..`
-DECLARED = re.compile(rf"^\s*(?:(?:(?:pub|abbrev|unfoldable)\s+)*({NAME}(?:\s+{NAME})*)\s*:\s|(?:(?:pub|abbrev|unfoldable)\s+)*(?:data|record)\s+({NAME}))")
+DECLARED = re.compile(rf"^\s*(?:(?:(?:pub|abbrev|unfoldable)\s+)*({NAME}(?:\s+{NAME})*)\s*:(?:\s|$)|(?:(?:pub|abbrev|unfoldable)\s+)*(?:data|record)\s+({NAME}))")
 
 
 def read(path):

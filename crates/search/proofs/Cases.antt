@@ -59,13 +59,13 @@ unfolding answer
 all_forced = refl
 
 -- it goes on until nothing is forced, back to lower-numbered clauses too: 1 by the third, 2 by the second, 3 by the first
-forced-in-turn :
+forced_in_turn :
     answer
     (problem 0 (1 ∷ 2 ∷ 3 ∷ []) ((negative 2 ∷ positive 3 ∷ []) ∷ (negative 1 ∷ positive 2 ∷ []) ∷ (positive 1 ∷ []) ∷ []))
     0
     ≡ plan 7 0 true 6
 unfolding answer
-forced-in-turn = refl
+forced_in_turn = refl
 
 -- a variable may be forced to be false; a plan without a true variable is a plan
 forced_false : answer (problem 0 (7 ∷ []) ((negative 1 ∷ []) ∷ [])) 0 ≡ plan 0 0 true 0

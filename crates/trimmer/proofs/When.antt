@@ -216,10 +216,10 @@ module _ (s r marks out : List ℕ) (a : Written) (m l : List ℕ) (w : TrimmedW
   marks_are : (a.number ≡ 0) ⊎ (a.number ≡ 28) → steps r ≤ length marks → m ≡ over (marks_of s r) marks
   marks_are e h = marks_back s r marks m (w.marked e) w.past_marks (omega (arith, w.same_marks))
 
-  pub when-only :
+  pub when_only :
       (a ≡ trimming s r (length marks) (length out)) × (m ≡ marks_left s r marks) × (l ≡ output_left s r (length marks) out)
   unfolding trimming marks_left output_left
-  when-only = by_case (case_of s r (length marks) (length out))
+  when_only = by_case (case_of s r (length marks) (length out))
     where
       by_case : Case s r (length marks) (length out) (mark_finding s r (length marks)) (trim_finding s r (length marks) (length out))
           → (a ≡ trimming s r (length marks) (length out)) × (m ≡ marks_left s r marks) × (l ≡ output_left s r (length marks) out)

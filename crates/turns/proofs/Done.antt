@@ -268,7 +268,7 @@ turning_done s turns b valid enough all =
     record {
       values = λ v w. turned_value b.assignment turns (inside_of (variables s) (length b.assignment) turns enough.assignment every) v w.0;
       spare = never (variables s) turns every;
-      index_size_lem = z;
+      index_long = z;
       begins = rw (← z) (take-append_seam (index_of s) (drop (length (index_of s)) b.index));
       pairs = index_pairs s valid;
       whole = λ v w. (let e = body_size s valid v w in omega (arith, e));

@@ -75,7 +75,7 @@ pub record Turning (s turns : List ℕ) (b l : Lent) (total : ℕ) : Type 0 wher
       → value_in l.assignment v ≡ after (times_in turns v) (value_in b.assignment v)
   pub spare : (v : ℕ) → variables s < v → times_in turns v ≡ 0
   -- the index begins with the pairs of n lists, by the rule of every table of pairs; each is of whole numbers of 4 bytes
-  pub index_size_lem : length (index_of s) ≡ index_size s
+  pub index_long : length (index_of s) ≡ index_size s
   pub begins : take (index_size s) l.index ≡ index_of s
   pub pairs : PairRule (index_of s) 0 (variables s)
   pub whole : (v : ℕ) → Among (variables s) v → length (body (index_of s) 0 v) % 4 ≡ 0

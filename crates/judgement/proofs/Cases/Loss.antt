@@ -27,10 +27,10 @@ sheet_l =
     ∷ []
 
 -- the writer writes these bytes
-writes-loss :
+writes_loss :
     sheet_of 4 (3 ∷ 5 ∷ []) (clause (positive 1 ∷ positive 2 ∷ []) ∷ clause (positive 1 ∷ negative 2 ∷ []) ∷ []) ≡ sheet_l
 unfolding bytes_of numbers_of pairs_of joined file_of sheet_of clause sheet_l
-writes-loss = refl
+writes_loss = refl
 
 -- the same with a loss of 0, whose mark the writer would leave out
 sheet_m : List ℕ

@@ -26,7 +26,7 @@ record_w bound =
 
 -- the bytes of the step, as docs/FORMATS.md prints them: this fixes the order of the fields, which the reader and the writer could
 -- change together
-writes-weighted :
+writes_weighted :
     weighted_step (positive 5 ∷ negative 6 ∷ []) 11 1 ((1, 3) ∷ (2, 4) ∷ (3, 2) ∷ [])
     ≡ 0x05 ∷ 0x00 ∷ 0x02 ∷ 0x00 ∷ 0x0B ∷ 0x00 ∷ 0x00 ∷ 0x00 ∷ 0x00 ∷ 0x00 ∷ 0x00 ∷ 0x00
     ∷ 0x0A ∷ 0x00 ∷ 0x0D ∷ 0x00 ∷ 0x01 ∷ 0x00
@@ -35,7 +35,7 @@ writes-weighted :
     ∷ 0x03 ∷ 0x00 ∷ 0x00 ∷ 0x00 ∷ 0x02 ∷ 0x00
     ∷ []
 unfolding bytes_of numbers_of entries_of weighted_tail step_of weighted_step
-writes-weighted = refl
+writes_weighted = refl
 
 example3 : List Case
 example3 =

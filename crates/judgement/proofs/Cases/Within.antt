@@ -138,10 +138,10 @@ unfolding right sheet_a record_a record_a4
 answers_a4 = refl
 
 -- neither accepted nor refused
-named-A4 :
+named_a4 :
     (says_within (judgement sheet_a record_a4) ≡ true) × (accepts (judgement sheet_a record_a4) ≡ false) × (passes (judgement sheet_a record_a4) ≡ true)
 unfolding right sheet_a record_a record_a4
-named-A4 = (refl, refl, refl)
+named_a4 = (refl, refl, refl)
 
 -- ---- showing
 

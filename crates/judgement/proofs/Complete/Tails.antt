@@ -1,5 +1,5 @@
 -- The tails of kinds 3 and 5: of a tail as it is written the clauses, the divisor, the weights and how many there are are read back. The
--- bytes of a step of kind 5 as it is written stand in Cases/Weights.antt (`writes-weighted`).
+-- bytes of a step of kind 5 as it is written stand in Cases/Weights.antt (`writes_weighted`).
 -- Assumes nothing.
 use Prim.Native.Nat.{ℕ, ◌+◌, ◌-◌, ◌*◌, ◌^◌, ◌<◌}
 use mathlib.Core.Path.{◌≡◌, refl, ◌∙◌}
