@@ -5,6 +5,8 @@ use mathlib.Core.Path.{◌≡◌, ◌∙◌, refl, sym}
 use mathlib.Core.List.{List, [], ◌++◌, append_assoc}
 use native.Mathlib.Omega.{arith}
 use lib.ListN.{length, take, length-append}
+use lib.Seq.{length-take-le}
+use Rattle.io.specs.Counts.{IsPrefixLen}
 use Rattle.judgement.specs.Buffer.{over}
 use Rattle.judgement.proofs.Laws.Buffer.{over_next}
 
@@ -32,3 +34,9 @@ field_put {v} {l₀} {l} {a} w d m r p f e =
       end = let h = p.end in simp length-append (omega arith);
       bytes = e ∙ rw (append_assoc (take a l) w d, append_assoc v w d, over_next v (w ++ d) l₀ l a p.bytes (sym p.end));
     }
+
+-- the length of what stands at the beginning counts bytes of the buffer
+pub counts : (w l m : List ℕ) (r : ℕ) → r ≡ length w → m ≡ over w l → IsPrefixLen r m
+counts w l m r e f =
+    let h : r ≤ length m = rw f (simp length-append (omega arith)) in
+    (h, sym (length-take-le r m h))
