@@ -16,6 +16,7 @@ pub(crate) fn natural(x: u64) -> i64
 }
 
 // Far above 0 where c is positive, so that falsifying it makes its variable false, and else far below.
+#[tactic(auto, using(crate::proofs::Far::far_above, crate::proofs::Far::far_below))]
 pub(crate) fn far(c: usize) -> i64
     ensures { result ≡ far_of c }
 {

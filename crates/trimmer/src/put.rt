@@ -165,6 +165,7 @@ fn write_head(r: &[u8], table: usize, count: u32, out: &mut [u8])
 }
 
 // The record of the steps that have marks, `count` of them. There is room for two counts where a pair will stand.
+#[tactic(auto, using(crate::proofs::Chosen::count_at_most))]
 fn write_all(s: &[u8], r: &[u8], table: usize, marks: &[u8], count: usize, out: &mut [u8])
     requires { Marked s.now r.now table marks.now × (count ≡ count_of (kept s.now r.now) (steps r.now))
         × (length (trimmed s.now r.now) ≤ length out.old) }

@@ -126,6 +126,10 @@ wrong_next n turns i p g h =
 wrong_is : (r : ℕ) → Fault 30 (r + 1) ≡ wrong_at (r + 1)
 wrong_is r = rw (ne_eqb (r + 1) 0 (omega arith))
 
+-- a place that is not 0 says 30
+pub wrong_some : (r : ℕ) → 1 ≤ r → wrong_at r ≡ Fault 30 r
+wrong_some r h = rw (ne_eqb r 0 (λ e. omega (arith, e, h)))
+
 pub wrong_low : (n : ℕ) (turns : List ℕ) (i : ℕ) → i < length turns → over_all (wrong_turn n turns) i ≡ Fine → get_or turns i 0 < 1
     → over_all (wrong_turn n turns) (length turns) ≡ wrong_at (i + 1)
 wrong_low n turns i h p g =
@@ -173,6 +177,12 @@ module _ (s turns a i c : List ℕ) where
   wrong_turn_lem n r en e w d =
       let f : over_all (wrong_turn (variables s) turns) (length turns) ≡ Fault 30 r = rw (← en) (w ∙ rw (ne_eqb r 0 d)) in
       fault_outcome (lent_finding s turns (lent a i c)) 30 r s turns (lent a i c) (rw (e, f))
+
+  -- where there is room, the turns alone are looked at
+  pub with_room : has_room s (length a) (length i) (length c) ≡ true
+      → lent_finding s turns (lent a i c) ≡ over_all (wrong_turn (variables s) turns) (length turns)
+  unfolding lent_finding no_room
+  with_room e = rw e
 
   pub none_wrong : (n r : ℕ) → n ≡ variables s → over_all (wrong_turn n turns) (length turns) ≡ wrong_at r → r ≡ 0
       → over_all (wrong_turn (variables s) turns) (length turns) ≡ Fine

@@ -100,6 +100,7 @@ fn run(
 }
 
 // Refusals 29 and 30 of a valid sheet, then the turns.
+#[tactic(auto, using(crate::proofs::Answers::with_room, crate::proofs::Answers::wrong_some))]
 fn turn_valid(s: &[u8], a: &mut [u8], turns: &[u16], index: &mut [u8], counts: &mut [u8]) -> Turned
     requires { ValidSheet s.now }
     ensures { (result ≡ answer_of (lent_finding s.now turns.now (lent a.old index.old counts.old))

@@ -36,6 +36,10 @@ pub too_short : (s out : List ℕ) → length out < length (canonical s)
 unfolding shortage
 too_short s out h = let e = lt-leb (length (canonical s)) (length out) h in (rw e, rw e)
 
+pub short_room : (s : List ℕ) (room : ℕ) → room < length (canonical s) → shortage s room ≡ Fault 25 0
+unfolding shortage
+short_room s room h = rw (lt-leb (length (canonical s)) room h)
+
 pub long_enough : (s out left : List ℕ) (n : ℕ) → length (canonical s) ≤ length out → n ≡ length (canonical s) → left ≡ over (canonical s) out
     → Told (shortage s (length out)) (canonical s) out (record { number = 0; place = 0; length = n }) left
 unfolding shortage

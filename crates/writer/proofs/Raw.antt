@@ -173,3 +173,9 @@ module _ (s : List ℕ) (table : ℕ) (known : Known s table) (bytes : IsBytes s
       file_written (head_bytes s (length order)) (map (body_of s) order) end (end + 8 * length order) out₀ out p q
       (length_head_bytes ∙ sym e) (rw (length-map order (body_of s))) eo ep eq
       ∙ rw raw_canonical
+
+-- the size that the code counts is that of the canonical sheet
+pub counted_size : (s order : List ℕ) → ValidSheet s → IsBytes s → SortedRange s 0 (clauses s) order
+    → length (joined (map (body_of s) order)) + 8 * length order + head_end s ≡ length (canonical s)
+counted_size s order valid bytes range =
+    omega (arith, raw_size s (clause_pairs_at s) (record { valid = valid; pairs = refl }) bytes order range)

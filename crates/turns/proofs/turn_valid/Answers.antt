@@ -1,7 +1,9 @@
--- `turns::turn_valid` meets its contract: 29, then 30, then the turns.
+-- `turns::turn_valid` meets its contract: 29, then 30, which the check finds by the lemmas that the function's attribute names, then the
+-- turns.
 -- Assumes nothing.
-use Rattle.turns.proofs.Answers.{room_is, no_room_lem, wrong_turn_lem, none_wrong, all_among, all_turned}
+use Rattle.turns.proofs.Answers.{room_is, no_room_lem, none_wrong, all_among, all_turned}
 use Rattle.sheet.proofs.Stages.{fails_by, holds_by}
+use native.Mathlib.Omega.{arith}
 use Rattle.judgement.specs.Sheet.{variables}
 use lib.ListN.{length}
 use Rattle.turns.proofs.turn_valid.Goals as goal
@@ -13,18 +15,14 @@ pub returns-then-not-has_room : goal.returns-then-not-has_room
 returns-then-not-has_room c =
     no_room_lem c.args.s.now c.args.turns.now c.args.a.now c.args.index.now c.args.counts.now (fails_by c.has_room.ensures c.if-not-has_room.true-raw)
 
-pub returns-then-wrong-ne0 : goal.returns-then-wrong-ne0
-returns-then-wrong-ne0 c =
-    wrong_turn_lem c.args.s.now c.args.turns.now c.args.a.now c.args.index.now c.args.counts.now _ _ c.variable_count.ensures.0 (holds_by c.has_room.ensures c.if-not-has_room.false-raw) c.first_wrong-wrong.ensures c.if-wrong-ne0.true
-
 pub run-total-requires : goal.run-total-requires
 run-total-requires c =
     let a = c.args in
-    let w = none_wrong c.args.s.now c.args.turns.now c.args.a.now c.args.index.now c.args.counts.now _ _ c.variable_count.ensures.0 c.first_wrong-wrong.ensures c.if-wrong-ne0.false in
+    let w = none_wrong c.args.s.now c.args.turns.now c.args.a.now c.args.index.now c.args.counts.now c.variable_count.result c.first_wrong-wrong.result c.variable_count.ensures.0 c.first_wrong-wrong.ensures (omega arith) in
     let r = room_is a.s.now (length a.a.now) (length a.index.now) (length a.counts.now) (holds_by c.has_room.ensures c.if-not-has_room.false-raw) in
     (c.requires, c.index_size-end.ensures.0, all_among (variables a.s.now) a.turns.now w, r.assignment, r.index, r.counts)
 
 pub returns : goal.returns
 returns c =
-    let w = none_wrong c.args.s.now c.args.turns.now c.args.a.now c.args.index.now c.args.counts.now _ _ c.variable_count.ensures.0 c.first_wrong-wrong.ensures c.if-wrong-ne0.false in
+    let w = none_wrong c.args.s.now c.args.turns.now c.args.a.now c.args.index.now c.args.counts.now c.variable_count.result c.first_wrong-wrong.result c.variable_count.ensures.0 c.first_wrong-wrong.ensures (omega arith) in
     all_turned c.args.s.now c.args.turns.now c.args.a.now c.args.index.now c.args.counts.now _ _ (holds_by c.has_room.ensures c.if-not-has_room.false-raw) w c.run-total.ensures.0 c.run-total.ensures.1

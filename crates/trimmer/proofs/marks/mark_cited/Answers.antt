@@ -22,14 +22,6 @@ bounds-marks-x c =
     let w = c.requires.first (is_four c.args.b.now (omega arith)) in
     omega (arith, w.0, w.1)
 
-pub overflow_sub-marks-2 : goal.overflow_sub-marks-2
-overflow_sub-marks-2 c = omega (arith, (c.requires.second (is_four c.args.b.now (omega arith))).0)
-
-pub bounds-marks-y : goal.bounds-marks-y
-bounds-marks-y c =
-    let w = c.requires.second (is_four c.args.b.now (omega arith)) in
-    rw length-set (omega (arith, w.0, w.1))
-
 pub returns : goal.returns
 returns c =
     cited_two c.args.b.now c.args.marks.now _ _ (omega arith) c.cited_at-x.ensures.0 c.cited_at-y.ensures.0

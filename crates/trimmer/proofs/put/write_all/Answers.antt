@@ -120,12 +120,6 @@ write_pairs-requires c =
     let n = pairs_size a.s.now a.r.now a.table a.marks.now h.0 start in
     (h.0, omega (arith, x, h.1, whole_short a.s.now a.r.now a.table a.marks.now h.0), omega (arith, f, y, z, n, x, h.1, h.2))
 
-pub overflow_cast-count : goal.overflow_cast-count
-overflow_cast-count c =
-    let a = c.args in
-    let h = c.requires in
-    omega (arith, few_kept a.s.now a.r.now a.table a.marks.now h.0, h.1)
-
 pub write_head-requires : goal.write_head-requires
 write_head-requires c =
     let a = c.args in

@@ -25,16 +25,6 @@ overflow_add-size-2 c =
     let e = c.head_end-end.ensures.0 in
     omega (arith, z, k, b, e, h.0.valid.size)
 
-pub returns-then-out-size : goal.returns-then-out-size
-returns-then-out-size c =
-    let a = c.args in
-    let h = c.requires in
-    let bytes : IsBytes a.s.now = λ i. (c.type_inv.s i).fits in
-    let z = raw_size a.s.now a.table h.0 bytes a.order.now h.1 in
-    let b = c.bodies_size.ensures in
-    let e = c.head_end-end.ensures.0 in
-    too_short a.s.now a.out.now (omega (arith, z, b, e))
-
 pub write_order-requires : goal.write_order-requires
 write_order-requires c =
     let a = c.args in

@@ -17,13 +17,6 @@ body_of-body-requires c =
     let a = c.args in
     (c.requires.0, (words_at a.s.now a.order.now l.i c.requires.1 (omega arith)).0)
 
-pub overflow_cast-next : goal.overflow_cast-next
-overflow_cast-next c =
-    let l = c.loop-i in
-    let a = c.args in
-    let r = size_room (body_of a.s.now) a.order.now l.i (omega arith) in
-    omega arith
-
 pub overflow_cast-size : goal.overflow_cast-size
 overflow_cast-size c =
     let l = c.loop-i in
