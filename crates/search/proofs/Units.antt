@@ -15,7 +15,8 @@ use Rattle.judgement.proofs.Laws.Scan.{which, clash, and_i, and_l, and_r, or_l, 
 use Rattle.search.specs.declared.Node.{Node}
 use Rattle.search.specs.Node.{has, add, unsettled, settled_false, last_code, forces, falsified}
 use Rattle.search.specs.Tables.{clause_of, FineClause}
-use Rattle.search.specs.Work.{Quiet, two, true_one, Looked, is_unit}
+use Rattle.search.specs.declared.Work.{Work}
+use Rattle.search.specs.Work.{node_of, Quiet, two, true_one, Looked, is_unit}
 use Rattle.search.proofs.Sets.{has_empty}
 use Rattle.search.proofs.Masks.{add_at, has_or, has_and, has_single, some_in, two_in, single, lowest_in, lowest_small}
 use Rattle.search.proofs.Nodes.{variable_positive, variable_negative, is_positive_lem, is_negative, settle_positive, settle_negative}
@@ -187,3 +188,16 @@ module _ (n a b : ℕ) (small : n ≤ 64) (fine : FineClause n a b) (p : Node) (
           (record { trues = p.trues; falses = bit_or p.falses rest; todo = bit_or todo rest; dead = dead })
       rest_negative z todo dead = is_unit (negative v) (unit (negative v) (rw (is_negative v, variable_negative v) (in_b z)) (variable_negative v))
           (rw (settle_negative p (negative v) (is_negative v), variable_negative v, added p.falses, added todo))
+
+-- ---- one is left: its variable is added to the true ones where it stands in a, else to the false ones
+
+module _ (n a b rest : ℕ) (w : Work) (small : n ≤ 64) (fine : FineClause n a b) (word : rest < 2 ^ 64) (is-rest : NotFalse a b (node_of w) rest)
+    (some : 1 ≤ rest) (alone : bit_and rest (rest - 1) ≡ 0) (free : bit_and rest (bit_or w.trues w.falses) ≡ 0) where
+  pub rest_either : (t f : ℕ) → ((1 ≤ bit_and rest a) × (t ≡ bit_or w.trues rest) × (f ≡ w.falses))
+      ⊎ ((bit_and rest a ≡ 0) × (t ≡ w.trues) × (f ≡ bit_or w.falses rest))
+      → Looked n (clause_of a b) w (record { trues = t; falses = f; todo = bit_or w.todo rest; dead = w.dead })
+  rest_either t f (inl (nz, t-is, f-is)) =
+      rw (t-is, f-is)
+      (rest_positive n a b small fine (node_of w) rest word is-rest some alone free (λ e. omega (arith, e, nz)) w.todo w.dead)
+  rest_either t f (inr (z, t-is, f-is)) =
+      rw (t-is, f-is) (rest_negative n a b small fine (node_of w) rest word is-rest some alone free z w.todo w.dead)

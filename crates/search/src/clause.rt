@@ -40,17 +40,16 @@ pub fn look(a: u64, b: u64, w: Work) -> Work
     if rest & (w.trues | w.falses) != 0 {
         return w;
     }
+    let mut trues = w.trues;
+    let mut falses = w.falses;
     if rest & a != 0 {
-        return Work {
-            trues: w.trues | rest,
-            falses: w.falses,
-            todo: w.todo | rest,
-            dead: w.dead,
-        };
+        trues |= rest;
+    } else {
+        falses |= rest;
     }
     Work {
-        trues: w.trues,
-        falses: w.falses | rest,
+        trues: trues,
+        falses: falses,
         todo: w.todo | rest,
         dead: w.dead,
     }

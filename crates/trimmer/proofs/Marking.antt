@@ -208,6 +208,10 @@ pub cited_two : (b marks : List ℕ) (x y : ℕ) → get_or b 0 0 ≡ 4 → x �
 unfolding with_cited
 cited_two b marks x y e p q = rw (p, q, is_four b e)
 
+-- the same as an equation of the marks
+pub two_cited : (b marks : List ℕ) → get_or b 0 0 ≡ 4 → with_cited (kind_of b) b marks ≡ set (set marks (cited b 1 - 1) 1) (cited b 2 - 1) 1
+two_cited b marks e = sym (cited_two b marks (cited b 1) (cited b 2) e refl refl)
+
 pub pass_unmarked : (b : List ℕ) (k : ℕ) (marks : List ℕ) → (get_or marks (k - 1) 0 ≡ 1 → ⊥) → marks ≡ passed_on b k marks
 unfolding passed_on marked
 pass_unmarked b k marks h = rw (ne_eqb (get_or marks (k - 1) 0) 1 h)

@@ -23,7 +23,7 @@ fn mark_last(t: usize, marks: &mut [u8])
 }
 
 // The steps that a body b cites get marks: two of kind 4, none of another kind.
-#[tactic(auto, using(crate::proofs::Marking::is_four, std::proofs::lemmas::Grind::common_steps))]
+#[tactic(auto, using(crate::proofs::Marking::is_four, crate::proofs::Marking::two_cited, std::proofs::lemmas::Grind::common_steps))]
 fn mark_cited(b: &[u8], marks: &mut [u8])
     requires { Citing b.now (length marks.old) }
     ensures { marks.new ≡ with_cited (kind_of b.now) b.now marks.old }

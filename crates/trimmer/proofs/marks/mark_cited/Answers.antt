@@ -1,8 +1,8 @@
--- `trimmer::marks::mark_cited` meets its contract: by the first byte the body is of kind 4 or not.
+-- `trimmer::marks::mark_cited` meets its contract: by the first byte the body is of kind 4 or not. The second mark, and the
+-- marks in the end, go by the lemmas that the function's attribute names.
 -- Assumes nothing.
 use native.Mathlib.Omega.{arith}
-use lib.ListN.{length-set}
-use Rattle.trimmer.proofs.Marking.{is_four, cited_none, cited_two}
+use Rattle.trimmer.proofs.Marking.{is_four, cited_none}
 use Rattle.trimmer.proofs.marks.mark_cited.Goals as goal
 
 pub returns-then-b-ne4 : goal.returns-then-b-ne4
@@ -21,7 +21,3 @@ pub bounds-marks-x : goal.bounds-marks-x
 bounds-marks-x c =
     let w = c.requires.first (is_four c.args.b.now (omega arith)) in
     omega (arith, w.0, w.1)
-
-pub returns : goal.returns
-returns c =
-    cited_two c.args.b.now c.args.marks.now _ _ (omega arith) c.cited_at-x.ensures.0 c.cited_at-y.ensures.0

@@ -142,5 +142,5 @@ returns c =
     (pairs_to a.s.now a.r.now start (length a.marks.now)) (bodies_to a.s.now a.r.now (length a.marks.now))
     (omega arith) (omega (arith, x, h.1, h.2)) (e ∙ l) (head_size a.s.now a.r.now a.table a.marks.now h.0 a.count) (omega (arith, n, h.1))
     c.write_bodies.new.out c.write_pairs.new.out c.write_head.new.out
-    c.write_bodies.ensures c.write_pairs.ensures c.write_head.ensures in
+    c.write_bodies.ensures c.write_pairs.ensures (grind (arith, c.write_head.ensures)) in
     rw (whole_is a.s.now a.r.now a.table a.marks.now h.0 bytes a.count start h.1 refl) at all

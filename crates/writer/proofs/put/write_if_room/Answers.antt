@@ -1,10 +1,11 @@
--- `writer::put::write_if_room` meets its contract: the size is that of the canonical sheet.
+-- `writer::put::write_if_room` meets its contract: the size is that of the canonical sheet. Refusal 25 goes by the lemmas that
+-- the function's attribute names.
 -- Assumes nothing.
 use native.Mathlib.Omega.{arith}
 use Rattle.judgement.specs.Demands.{IsBytes}
 use Rattle.writer.proofs.Canonical.{canonical_length}
 use Rattle.writer.proofs.Raw.{raw_words, raw_size}
-use Rattle.writer.proofs.Answers.{too_short, long_enough}
+use Rattle.writer.proofs.Answers.{long_enough}
 use Rattle.writer.proofs.put.write_if_room.Goals as goal
 
 pub bodies_size-requires : goal.bodies_size-requires

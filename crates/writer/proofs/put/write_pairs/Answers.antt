@@ -37,8 +37,8 @@ pub loop-i-preserved : goal.loop-i-preserved
 loop-i-preserved c =
     let l = c.loop-i in
     let a = c.args in
-    pairs_turn (body_of a.s.now) a.order.now a.start l.i l.next a.out.now l.out _ _ l.invariant (omega arith) (omega arith)
-    c.body_of-body.ensures c.put_pair.ensures
+    pairs_turn (body_of a.s.now) a.order.now a.start l.i l.next a.out.now l.out c.put_pair.new.out c.body_of-body.result.now l.invariant (omega arith) (omega arith)
+    c.body_of-body.ensures (grind (arith, c.put_pair.ensures))
 
 pub shape_of-out : goal.shape_of-out
 shape_of-out c = c.loop-i.invariant.size
