@@ -96,7 +96,7 @@ def main():
         for new, olds in sorted(new_names.items()):
             if len(olds) < 2 or not olds & names.keys():
                 continue
-            # the definition keeps the word: the one that is not a lemma's, in inner capitals, or else the shorter file's
+            # the definition keeps the word: the name with inner capitals or, where none has any, the one with no dash
             kept = [o for o in olds if "-" not in o and re.search(r"[A-Zℤℕ]", o)] or [o for o in olds if "-" not in o]
             if len(kept) != 1:
                 bad = " and ".join(sorted(olds))
@@ -108,7 +108,7 @@ def main():
                     ending.add(old)
 
     def lemma_ends(path, text):
-        """The lemmas of `ending` that this file declares or imports."""
+        """The lemmas of `ending` that this file declares or imports. A field of a promise (`pub too_many : (a.number ..`) is none."""
         found = set()
         for name in ending & set(TOKEN.findall(text)):
             quoted = re.escape(name)
