@@ -1,8 +1,8 @@
 -- What a lent buffer holds after a call that writes into it, and what such a call answers; what stands where in it while that goes on.
 -- Assumes nothing.
-use Rattle.std.specs.Prelude.{ℕ, ◌+◌, ◌≡◌, cond, List, ◌++◌, length, take, drop, leb}
-use Rattle.judgement.specs.declared.Finding.{Finding}
-use Rattle.judgement.specs.declared.Finding.TheVariants.{Fine, Fault}
+use Rattle.std.specs.Prelude.{ℕ, ◌+◌, ◌≡◌, cond, List, ◌++◌, length, take, drop, leb, Result, Ok, Err}
+use Rattle.judgement.specs.Finding.{Finding}
+use Rattle.judgement.specs.declared.Refusal.{Refusal}
 use Rattle.judgement.specs.declared.Written.{Written}
 
 -- the buffer l with w at its beginning; where l is no shorter than w, what stood behind it stays, and so does the length
@@ -13,15 +13,20 @@ over w l = w ++ drop (length w) l
 unfoldable pub put : List ℕ → List ℕ → List ℕ
 put w l = cond (leb (length w) (length l)) (over w l) l
 
+-- the answer of a call that has written so many bytes, or is refused
+abbrev pub told_by : Result ℕ Refusal → Written
+told_by (Ok length) = record { number = 0; place = 0; length = length }
+told_by (Err x) = record { number = x.number; place = x.place; length = 0 }
+
 -- the answer of a call that writes w, after this finding
 abbrev pub written_by : Finding → List ℕ → Written
-written_by Fine w = record { number = 0; place = 0; length = length w }
-written_by (Fault number place) w = record { number = number; place = place; length = 0 }
+written_by (Ok _) w = record { number = 0; place = 0; length = length w }
+written_by (Err x) w = record { number = x.number; place = x.place; length = 0 }
 
 -- what the buffer l holds after it: a refusal leaves it
 abbrev pub left_by : Finding → List ℕ → List ℕ → List ℕ
-left_by Fine w l = over w l
-left_by (Fault number place) w l = l
+left_by (Ok _) w l = over w l
+left_by (Err x) w l = l
 
 -- ---- at any place
 

@@ -1,6 +1,7 @@
 pub mod Scan
 pub mod Integers
 pub mod Meaning
+pub mod Reasons
 pub mod Finding
 pub mod Number
 pub mod Buffer

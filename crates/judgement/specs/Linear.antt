@@ -5,8 +5,7 @@ use Rattle.std.specs.Prelude.{ℕ, ◌*◌, Bool, not, cond, ◌&&◌, List, eqb
 use Rattle.judgement.specs.Scan.{all_of, sum_of, count_of}
 use Rattle.judgement.specs.Integers.{sum_of_ℤ, below_zero, rounded_up}
 use Rattle.judgement.specs.Meaning.{positive, negative, is_positive, with_loss}
-use Rattle.judgement.specs.declared.Finding.{Finding}
-use Rattle.judgement.specs.Finding.{need}
+use Rattle.judgement.specs.Finding.{Finding, need}
 use Rattle.judgement.specs.Literals.{count, code, holds, mentions}
 use Rattle.judgement.specs.Sheet.{variables, cost_of, clause, problem_of}
 use Rattle.judgement.specs.Step.{bound, literals, tail, divisor, entry_count, entry_cites, weight}

@@ -169,9 +169,6 @@ module _ (s : List ℕ) (valid : ValidSheet s) (ts : List Typed) (d : Derivation
       let n = length_bodies ts in
       rw (written_steps, record_length c bits (bodies_of ts), whole, n) (omega arith)
 
-  pub written_bit : (v : ℕ) → 1 ≤ v → v ≤ 8 * assignment_size (variables s) → assigned (written c bits ts) v ≡ stored_bit bits v
-  written_bit v l h = record_bit c bits (bodies_of ts) v l (rw whole h)
-
   pub written_pairs : PairRule (written c bits ts) (step_pairs_at s) (steps (written c bits ts))
   written_pairs =
       rw written_steps (rw (length_bodies ts, whole) at (record_pairs c bits (bodies_of ts) size_fits))

@@ -9,7 +9,7 @@ use native.Mathlib.Omega.{arith}
 use native.Mathlib.Decide.{dec_lt, ℕ_discrete}
 use lib.Dec.{eqb}
 use borrow.Author.Tests.{eq-eqb, ne_eqb, le-leb, lt-leb}
-use Rattle.judgement.specs.declared.Finding.TheVariants.{Fault}
+use Rattle.judgement.specs.Finding.{fault}
 use Rattle.judgement.specs.Meaning.{none}
 use Rattle.judgement.specs.Record.{claim, steps, last_step}
 use Rattle.judgement.specs.Step.{literal_count, bound}
@@ -39,7 +39,7 @@ module _ (s r : List ℕ) where
   unfolding close
   cost_fine empty some = rw (eq-eqb (literal_count (last_step s r)) 0 empty, ne_eqb (claim r) none some)
 
-  pub open_fault : StaysOpen s r → close s r ≡ Fault 19 (steps r)
+  pub open_fault : StaysOpen s r → close s r ≡ fault 19 (steps r)
   unfolding close
   open_fault (literals_left some) = rw (ne_eqb (literal_count (last_step s r)) 0 some)
   open_fault (none_unproved claimed below) =
@@ -51,9 +51,9 @@ module _ (s r : List ℕ) where
     | inr stays ↦ absurd (not_fine (sym (fine_is (close s r) fine) ∙ open_fault stays))
   ]
 
-  pub fault_open : (P : ℕ) → close s r ≡ Fault 19 P → (P ≡ steps r) × StaysOpen s r
+  pub fault_open : (P : ℕ) → close s r ≡ fault 19 P → (P ≡ steps r) × StaysOpen s r
   fault_open P e = elim three_ways [
     | inl (inl closes) ↦ absurd (not_fine (sym (fine_is (close s r) (closes_fine closes)) ∙ e))
     | inl (inr short) ↦ absurd (not_fine (sym (fine_is (close s r) (cost_fine short.empty short.some)) ∙ e))
-    | inr stays ↦ (fault_has (λ N P. P ≡ steps r) (Fault 19 (steps r)) refl (sym (open_fault stays) ∙ e), stays)
+    | inr stays ↦ (fault_has (λ N P. P ≡ steps r) (fault 19 (steps r)) refl (sym (open_fault stays) ∙ e), stays)
   ]

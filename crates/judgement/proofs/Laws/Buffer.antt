@@ -6,12 +6,8 @@ use mathlib.Core.List.{List, ◌++◌, append_assoc, append-nil}
 use native.Mathlib.Omega.{arith}
 use borrow.Author.Tests.{le-leb, lt-leb}
 use lib.ListN.{length, take, drop, length-append, length-drop, drop_of_length-le}
-use lib.Seq.{length-take-le, take-length, take_all, take_at, drop_at, drop-append-add, drop-drop, paste}
+use lib.Seq.{take_all, take_at, drop_at, drop-append-add, drop-drop}
 use Rattle.judgement.specs.Buffer.{over, put}
-
--- w copied behind the first a elements
-pub paste_over : (w l : List ℕ) (a : ℕ) → a ≤ length l → paste l a w (length w) ≡ over (take a l ++ w) l
-paste_over w l a h = rw (take-length, length-append, length-take-le a l h)
 
 -- where v stands over the beginning of l₀, w behind it
 pub over_next : (v w l₀ l : List ℕ) (a : ℕ) → l ≡ over v l₀ → length v ≡ a → over (take a l ++ w) l ≡ over (v ++ w) l₀

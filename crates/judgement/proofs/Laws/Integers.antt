@@ -38,15 +38,16 @@ sub_diff a b = go (dec_lt a b)
     go (yes l) = rw (lt-ltb a b l) (omega arith)
     go (no l) = rw (le-ltb a b (omega (arith, l))) (omega (arith, l))
 
-add_diff' : (z w : ℤ) → Diff (z +ℤ w) (up z + up w) (down z + down w)
-add_diff' (pos n) (pos m) = omega arith
-add_diff' (pos n) (negsuc m) =
+-- a sum by its parts
+pub sum_parts : (z w : ℤ) → Diff (z +ℤ w) (up z + up w) (down z + down w)
+sum_parts (pos n) (pos m) = omega arith
+sum_parts (pos n) (negsuc m) =
     let h = sub_diff n (suc m) in
     omega (arith, h)
-add_diff' (negsuc n) (pos m) =
+sum_parts (negsuc n) (pos m) =
     let h = sub_diff m (suc n) in
     omega (arith, h)
-add_diff' (negsuc n) (negsuc m) = omega arith
+sum_parts (negsuc n) (negsuc m) = omega arith
 
 neg_parts : (z : ℤ) → (up (neg_ℤ z) ≡ down z) × (down (neg_ℤ z) ≡ up z)
 neg_parts (pos zero) = (refl, refl)
@@ -58,7 +59,7 @@ pos_diff n = omega arith
 
 pub add_diff : (z w : ℤ) (a b c e : ℕ) → Diff z a b → Diff w c e → Diff (z +ℤ w) (a + c) (b + e)
 add_diff z w a b c e h k =
-    let s = add_diff' z w in
+    let s = sum_parts z w in
     omega arith
 
 pub minus_diff : (z w : ℤ) (a b c e : ℕ) → Diff z a b → Diff w c e → Diff (z -ℤ w) (a + e) (b + c)
@@ -177,9 +178,6 @@ cover_diff z a b d x y h l c m = rw (cover_rounded z d x l c) (go z h)
 
 pub equal_parts : (z w : ℤ) → up z + down w ≡ up w + down z → z ≡ w
 equal_parts z w e = same_diff z w (up z) (down z) refl (omega (arith, e))
-
-pub sum_parts : (z w : ℤ) → Diff (z +ℤ w) (up z + up w) (down z + down w)
-sum_parts z w = add_diff' z w
 
 pub minus_parts : (z w : ℤ) → Diff (z -ℤ w) (up z + down w) (down z + up w)
 minus_parts z w = minus_diff z w (up z) (down z) (up w) (down w) refl refl

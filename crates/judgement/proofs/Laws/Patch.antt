@@ -8,6 +8,7 @@ use native.Mathlib.Nat.{add-zero, add_assoc, mul-le-mul, le_refl}
 use native.Mathlib.Omega.{arith}
 use lib.ListN.{length, get_or, take, drop, length-append, length-drop, take-append-drop}
 use lib.Seq.{take-add, drop-drop, take_at, drop_at, take-append-le, drop-append-le, drop-cons, take-take, length-take-le, take-append_seam, drop-append-add, drop-append_seam}
+use Rattle.std.proofs.lemmas.List.{drop-take}
 use Rattle.judgement.specs.Number.{number_at}
 use Rattle.judgement.specs.Writer.{bytes_of, numbers_of}
 use Rattle.judgement.specs.Buffer.{over, At, patch, Kept}
@@ -91,9 +92,6 @@ kept_more size more l₀ l h k =
 
 -- ---- a write
 
-part_of : (l : List ℕ) (b n : ℕ) → b ≤ length l → take n (drop b l) ≡ drop b (take (b + n) l)
-part_of l b n h = rw (take-add b n l) (sym (drop_at (take b l) (take n (drop b l)) b (length-take-le b l h)))
-
 module _ (a : ℕ) (w l : List ℕ) (fits : a + length w ≤ length l) where
   before : length (take a l) ≡ a
   before = length-take-le a l (omega arith)
@@ -132,9 +130,8 @@ module _ (a : ℕ) (w l : List ℕ) (fits : a + length w ≤ length l) where
   patch_other b u (inl h) p =
       record {
         is =
-            (let z = length_patch in
-            part_of (patch a w l) b (length u) (omega (arith, z))
-            ∙ rw (patch_before (b + length u) h) (sym (part_of l b (length u) (omega arith)) ∙ p.is));
+            sym (drop-take b (length u) (patch a w l))
+            ∙ rw (patch_before (b + length u) h) (drop-take b (length u) l ∙ p.is);
       }
 
   pub patch_kept : (size : ℕ) (l₀ : List ℕ) → a + length w ≤ size → Kept size l₀ l → Kept size l₀ (patch a w l)

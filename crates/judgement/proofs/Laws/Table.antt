@@ -8,7 +8,8 @@ use native.Mathlib.Omega.{arith}
 use native.Mathlib.Numerals.{add-one}
 use native.Mathlib.Nat.{add-zero}
 use lib.ListN.{length, get_or, take, drop, length-append, length-map, take-append-drop}
-use lib.Seq.{take-suc, take_all, length-take-le}
+use lib.Seq.{take-suc, length-take-le}
+use Rattle.std.proofs.lemmas.List.{get_or-map}
 use Rattle.judgement.specs.Scan.{sum_of}
 use Rattle.judgement.specs.Pairs.{pair_offset, pair_length}
 use Rattle.judgement.specs.Facts.{PairRule}
@@ -56,9 +57,7 @@ pairs_end start (c ∷ l) b =
 
 -- the body of the entry at a place
 pub map_at : (g : ℕ → List ℕ) (l : List ℕ) (i : ℕ) → i < length l → get_or (map g l) i [] ≡ g (get_or l i 0)
-map_at g [] i h = absurd (omega arith)
-map_at g (k ∷ l) zero h = refl
-map_at g (k ∷ l) (suc i) h = map_at g l i (omega arith)
+map_at g l i h = get_or-map g l i 0 [] h
 
 -- the bodies of the first i entries
 abbrev pub firsts : (ℕ → List ℕ) → List ℕ → ℕ → List (List ℕ)
@@ -67,9 +66,6 @@ firsts g order i = map g (take i order)
 firsts_next : (g : ℕ → List ℕ) (order : List ℕ) (i : ℕ) → i < length order
     → firsts g order (i + 1) ≡ firsts g order i ++ (g (get_or order i 0) ∷ [])
 firsts_next g order i h = rw (add-one, take-suc order i 0 h) (map-append g (take i order) (get_or order i 0 ∷ []))
-
-firsts_all : (g : ℕ → List ℕ) (order : List ℕ) (i : ℕ) → length order ≤ i → firsts g order i ≡ map g order
-firsts_all g order i h = rw (take_all i order h)
 
 firsts_count : (g : ℕ → List ℕ) (order : List ℕ) (i : ℕ) → i ≤ length order → length (firsts g order i) ≡ i
 firsts_count g order i h = length-map (take i order) g ∙ length-take-le i order h
@@ -81,9 +77,6 @@ size_to g order i = length (joined (firsts g order i))
 pub size_next : (g : ℕ → List ℕ) (order : List ℕ) (i : ℕ) → i < length order
     → size_to g order (i + 1) ≡ size_to g order i + length (g (get_or order i 0))
 size_next g order i h = rw (firsts_next g order i h, joined_end) (length-append (joined (firsts g order i)) (g (get_or order i 0)))
-
-pub size_all : (g : ℕ → List ℕ) (order : List ℕ) (i : ℕ) → length order ≤ i → size_to g order i ≡ length (joined (map g order))
-size_all g order i h = rw (firsts_all g order i h)
 
 size_within : (g : ℕ → List ℕ) (order : List ℕ) (i : ℕ) → size_to g order i ≤ length (joined (map g order))
 size_within g order i =
@@ -144,10 +137,6 @@ pairs_turn g order start i next out₀ out p b s h room eb ep =
       size = ap length d ∙ length_over (pairs_to g order start (i + 1)) out₀ (omega (arith, l));
     }
 
-pub pairs_done : (g : ℕ → List ℕ) (order : List ℕ) (start i next : ℕ) (out₀ out : List ℕ)
-    → Progress g order start i next (pairs_to g order start i) out₀ out → length order ≤ i → out ≡ over (pairs_of start (map g order)) out₀
-pairs_done g order start i next out₀ out s h = s.done ∙ rw (firsts_all g order i h)
-
 -- ---- bodies
 
 abbrev pub bodies_to : (ℕ → List ℕ) → List ℕ → ℕ → List ℕ
@@ -179,10 +168,6 @@ bodies_turn g order i at out₀ out p b s h room eb ep =
       done = d;
       size = ap length d ∙ length_over (bodies_to g order (i + 1)) out₀ (omega (arith, l, z));
     }
-
-pub bodies_done : (g : ℕ → List ℕ) (order : List ℕ) (i at : ℕ) (out₀ out : List ℕ)
-    → Progress g order 0 i at (bodies_to g order i) out₀ out → length order ≤ i → out ≡ over (joined (map g order)) out₀
-bodies_done g order i at out₀ out s h = s.done ∙ rw (firsts_all g order i h)
 
 -- ---- a file: what stands before the pairs, the pairs, the bodies, one behind the other
 

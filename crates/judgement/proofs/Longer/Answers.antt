@@ -8,9 +8,8 @@ use mathlib.Core.List.{List}
 use mathlib.Core.Logic.{◌≢◌, ◌⊎◌, inl, inr}
 use native.Mathlib.Omega.{arith}
 use native.Mathlib.Decide.{dec_lt, ℕ_discrete}
-use Rattle.judgement.specs.declared.Finding.{Finding}
-use Rattle.judgement.specs.declared.Finding.TheVariants.{Fine, Fault}
-use Rattle.judgement.specs.Finding.{over_all}
+use Rattle.std.specs.Prelude.{Ok, Err}
+use Rattle.judgement.specs.Finding.{Finding, fault, over_all}
 use Rattle.judgement.specs.Meaning.{none}
 use Rattle.judgement.specs.Sheet.{clauses, clause, problem_of, sheet_finding}
 use Rattle.judgement.specs.Record.{claim, assigned, satisfied, true_count, record_finding, broken_clause}
@@ -26,7 +25,7 @@ use Rattle.judgement.proofs.Facts.Accepted.{facts_fine, passed_fine, passes_clos
 use Rattle.judgement.proofs.Longer.Steps.{same_layout, same_form, same_inference}
 
 -- clause k broken is 10 at k
-broken_fault : (t r : List ℕ) (k : ℕ) → (SatisfiesAt t r k → ⊥) → broken_clause t r k ≡ Fault 10 k
+broken_fault : (t r : List ℕ) (k : ℕ) → (SatisfiesAt t r k → ⊥) → broken_clause t r k ≡ fault 10 k
 unfolding broken_clause
 broken_fault t r k out =
     rw (false_i (satisfied (assigned r) (clause t k)) (λ h. out (satisfied_satisfies (assigned r) (clause t k) h)))
@@ -67,7 +66,7 @@ module _ (s t r : List ℕ) (longer : ExtendedBy s t) (ok : passes (judgement s 
       }
 
   -- all six numbers
-  same_numbers : answer_of t r Fine ≡ answer_of s r Fine
+  same_numbers : answer_of t r (Ok tt) ≡ answer_of s r (Ok tt)
   unfolding true_count
   same_numbers = rw longer.alike.same_variables
 
@@ -87,7 +86,7 @@ module _ (s t r : List ℕ) (longer : ExtendedBy s t) (ok : passes (judgement s 
       let layout = layout_record t r (same_layout s t longer.alike r facts.stored.layout) in
       let earlier : (h : ℕ) → 1 ≤ h → h < k → IsFine (broken_clause t r h) =
       λ h l u. satisfies_fine t r h (old_or_added some h l (λ new. b.before h new u)) in
-      let found = found_over (broken_clause t r) (clauses t) (Fault 10 k) refl
+      let found = found_over (broken_clause t r) (clauses t) (fault 10 k) refl
       (k, (omega (arith, b.added.0), b.added.1), earlier, broken_fault t r k b.broken) in
       rw (fine_is (oversize t r) sizes, fine_is (sheet_finding t) sheet, fine_is (record_finding t r) layout, claim_tested t r some, found)
 
@@ -101,9 +100,9 @@ module _ (s t r : List ℕ) (longer : ExtendedBy s t) (ok : passes (judgement s 
       added k w out (no old) = absurd (out (satisfies_old some k (w.0, omega (arith, old))))
 
       go : (f : Finding) → over_all (broken_clause t r) (clauses t) ≡ f → SatisfiesAdded s t r ⊎ ((k : ℕ) × FirstBroken s t r k)
-      go Fine e = inl (λ k w. fine_satisfies t r k (over_each (broken_clause t r) (clauses t) (rw e) k (omega (arith, w.0), w.1)))
-      go (Fault number place) e =
-          let (k, w, first, here) = over_found (broken_clause t r) (clauses t) number place e in
+      go (Ok _) e = inl (λ k w. fine_satisfies t r k (over_each (broken_clause t r) (clauses t) (rw e) k (omega (arith, w.0), w.1)))
+      go (Err x) e =
+          let (k, w, first, here) = over_found (broken_clause t r) (clauses t) x.number x.place e in
           let out : SatisfiesAt t r k → ⊥ = λ h. not_fine (sym (fine_is (broken_clause t r k) (satisfies_fine t r k h)) ∙ here) in
           inr (
             k,

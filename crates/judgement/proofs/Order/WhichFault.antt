@@ -7,9 +7,8 @@ use mathlib.Core.List.{List, [], ◌∷◌, ◌++◌}
 use mathlib.Core.Logic.{◌≢◌}
 use native.Mathlib.Omega.{arith}
 use lib.ListN.{get_or}
-use Rattle.judgement.specs.declared.Finding.{Finding}
-use Rattle.judgement.specs.declared.Finding.TheVariants.{Fine, Fault}
-use Rattle.judgement.specs.Finding.{◌then◌, over_all}
+use Rattle.std.specs.Prelude.{Ok, Err}
+use Rattle.judgement.specs.Finding.{Finding, fault, ◌then◌, over_all}
 use Rattle.judgement.specs.Pairs.{pair_finding, pairs_finding}
 use Rattle.judgement.specs.Sheet.{clauses, sheet_finding, sheet_pairs, clause_form}
 use Rattle.judgement.specs.declared.Kind.{Kind}
@@ -25,7 +24,7 @@ use Rattle.judgement.proofs.Laws.Findings.{then_assoc, then_fine, not_fine}
 -- ---- the first fault of a list
 
 abbrev first : List Finding → Finding
-first [] = Fine
+first [] = Ok tt
 first (f ∷ list) = f then first list
 
 first_append : (l m : List Finding) → first (l ++ m) ≡ first l then first m
@@ -74,7 +73,7 @@ first_assignment s r = go (claims_none r)
   where
     go : (b : Bool)
         → first (cond b [] (each (λ k. broken_clause s r k ∷ []) (clauses s) ++ (claimed_cost s r ∷ [])))
-        ≡ cond b Fine (over_all (broken_clause s r) (clauses s) then claimed_cost s r)
+        ≡ cond b (Ok tt) (over_all (broken_clause s r) (clauses s) then claimed_cost s r)
     go true = refl
     go false = rw (first_append, first_singles (broken_clause s r) (clauses s), then_fine)
 
@@ -93,18 +92,18 @@ in_order s r =
 
 -- ---- what the first fault of a list is
 
-first_found : (list : List Finding) (N P : ℕ) → first list ≡ Fault N P → FirstFault list N P
+first_found : (list : List Finding) (N P : ℕ) → first list ≡ fault N P → FirstFault list N P
 first_found [] N P e = absurd (not_fine e)
-first_found (Fine ∷ list) N P e =
+first_found (Ok _ ∷ list) N P e =
     let (i, here, before) = first_found list N P e in
     (suc i, here, λ j h. fine_before j i h before)
   where
-    fine_before : (j i : ℕ) → j < suc i → ((j : ℕ) → j < i → get_or list j Fine ≡ Fine) → get_or (Fine ∷ list) j Fine ≡ Fine
+    fine_before : (j i : ℕ) → j < suc i → ((j : ℕ) → j < i → get_or list j (Ok tt) ≡ Ok tt) → get_or (Ok tt ∷ list) j (Ok tt) ≡ Ok tt
     fine_before zero i h b = refl
     fine_before (suc j) i h b = b j (omega arith)
-first_found (Fault number place ∷ list) N P e = (0, e, λ j h. absurd (omega arith))
+first_found (Err x ∷ list) N P e = (0, e, λ j h. absurd (omega arith))
 
-found_first : (list : List Finding) (N P : ℕ) → FirstFault list N P → first list ≡ Fault N P
+found_first : (list : List Finding) (N P : ℕ) → FirstFault list N P → first list ≡ fault N P
 found_first [] N P (i, here, before) = absurd (not_fine here)
 found_first (f ∷ list) N P (zero, here, before) = rw here
 found_first (f ∷ list) N P (suc i, here, before) =
@@ -112,15 +111,15 @@ found_first (f ∷ list) N P (suc i, here, before) =
 
 -- ---- the judgement
 
-pub answer_fault : (s r : List ℕ) (f : Finding) (N P : ℕ) → N ≢ 0 → (answer_of s r f).number ≡ N → (answer_of s r f).place ≡ P → f ≡ Fault N P
-answer_fault s r Fine N P n a b = absurd (n (sym a))
-answer_fault s r (Fault number place) N P n a b = rw (a, b)
+pub answer_fault : (s r : List ℕ) (f : Finding) (N P : ℕ) → N ≢ 0 → (answer_of s r f).number ≡ N → (answer_of s r f).place ≡ P → f ≡ fault N P
+answer_fault s r (Ok _) N P n a b = absurd (n (sym a))
+answer_fault s r (Err x) N P n a b = rw (a, b)
 
 pub which_fault : (s r : List ℕ) → WhichFault s r (judgement s r)
 unfolding judgement
 which_fault s r N P n = (
   λ (a, b). first_found (tests s r) N P (in_order s r ∙ answer_fault s r (finding s r) N P n a b),
   λ w.
-      let e : finding s r ≡ Fault N P = sym (in_order s r) ∙ found_first (tests s r) N P w in
+      let e : finding s r ≡ fault N P = sym (in_order s r) ∙ found_first (tests s r) N P w in
       (rw e, rw e),
 )

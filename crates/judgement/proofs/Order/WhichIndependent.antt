@@ -1,7 +1,7 @@
 -- The refusals of kind 3 said as facts: the answer is one of them exactly when these hold.
 -- Assumes nothing.
 use Prim.Native.Nat.{ℕ, ◌-◌}
-use mathlib.Core.Path.{◌≡◌, refl}
+use mathlib.Core.Path.{◌≡◌, refl, sym, ◌∙◌}
 use mathlib.Core.Bool.{Bool, true, false, not, ◌||◌}
 use mathlib.Core.List.{List}
 use mathlib.Core.Logic.{◌↔◌, inl, inr}
@@ -9,29 +9,24 @@ use native.Mathlib.Omega.{arith}
 use lib.Dec.{eqb}
 use borrow.Author.Tests.{ne_eqb, eqb-true, eqb-false, not-false}
 use Rattle.judgement.specs.Meaning.{variable_of, is_positive, opposite}
-use Rattle.judgement.specs.declared.Finding.{Finding}
-use Rattle.judgement.specs.declared.Finding.TheVariants.{Fault}
-use Rattle.judgement.specs.Finding.{need, ◌then◌}
+use Rattle.judgement.specs.Finding.{Finding, fault, need, ◌then◌}
 use Rattle.judgement.specs.Literals.{count, code, variable, holds}
 use Rattle.judgement.specs.Sheet.{clauses}
 use Rattle.judgement.specs.Record.{step}
-use Rattle.judgement.specs.declared.Kind.{Kind}
-use Rattle.judgement.specs.declared.Kind.TheVariants.{Copy, Cost, IndependentSet, Resolvent, WeightedSet, Unknown}
+use Rattle.judgement.specs.declared.Kind.TheVariants.{IndependentSet}
 use Rattle.judgement.specs.Step.{kind_of, bound, literals, cited, cited_clause, cited_count, step_form, cites_fine, citation}
 use Rattle.judgement.specs.Kinds.{settled, none_true, unsettled_positive, some_unsettled, used_before, unshared}
 use Rattle.judgement.specs.Kinds.{true_finding, negative_finding, settled_finding, shared_finding, depends_on, dependence}
-use Rattle.judgement.specs.Kinds.{copy_finding, cost_bound, independent_cost, independent_bound, pivot_finding, resolvent_finding, lesser_bound, resolution_finding, kind_finding}
-use Rattle.judgement.specs.Linear.{weights_finding, linear_bound}
+use Rattle.judgement.specs.Kinds.{independent_cost, independent_bound, kind_finding}
 use Rattle.judgement.specs.Judgement.{finding, judgement}
 use Rattle.judgement.specs.Facts.{Among, In, Mentions, Free, CitesClauses}
 use Rattle.judgement.specs.Refusals.{Dependent, made_true, negative_yet, all_settled, shared_yet, FirstDependent, Reached, RefusedIndependent, is_of_independent}
 use Rattle.judgement.specs.Demands.{WhichIndependent}
 use Rattle.judgement.proofs.Laws.Scan.{clash, or_e, or_none_l, or_none_r, false_i, all_fails, any_at}
-use Rattle.judgement.proofs.Laws.Findings.{IsFine, fine_is, need_true, not_fine, over_found, found_over, then_found}
-use Rattle.judgement.proofs.Laws.Findings.{Faults, fine_faults, need_faults, then_faults, over_faults, fault_has}
+use Rattle.judgement.proofs.Laws.Findings.{IsFine, fine_is, need_true, not_fine, same_fault, over_found, found_over, then_found}
 use Rattle.judgement.proofs.Laws.Membership.{holds_in, mentions_in, in_mention, free}
 use Rattle.judgement.proofs.Order.WhichFault.{answer_fault}
-use Rattle.judgement.proofs.Order.WhichKind.{is_of_kind, finding_kind, kind_finding_lem}
+use Rattle.judgement.proofs.Order.WhichKind.{is_of_kind, finding_kind, kind_finding_lem, teller, found_kind}
 use Rattle.judgement.proofs.Laws.Lists.{rises_rising, rising_rises}
 use Rattle.judgement.proofs.Facts.FirstByte.{kind_begins, begins_kind}
 use Rattle.judgement.proofs.Facts.Inferences.{form_tail, layout_form}
@@ -71,37 +66,34 @@ found_shared s b j D C p =
 -- ---- one clause
 
 module _ (s b : List ℕ) (k j : ℕ) (D C : List ℕ) where
-  same_number : {n p N P : ℕ} → Fault n p ≡ Fault N P → (N ≡ n) × (P ≡ p)
-  same_number e = (cc, cc)
-
   -- the finding of the four tests, of which x, y, z and w are the answers
   abbrev four : Bool → Bool → Bool → Bool → Finding
   four x y z w = need x 14 k then need y 20 k then need z 21 k then need w 22 k
 
-  depends_found : (N P : ℕ) → depends_on s b k j D C ≡ Fault N P → (P ≡ k) × Dependent s b j D C N
+  depends_found : (N P : ℕ) → depends_on s b k j D C ≡ fault N P → (P ≡ k) × Dependent s b j D C N
   unfolding depends_on true_finding negative_finding settled_finding shared_finding
   depends_found N P = go (none_true D C) (unsettled_positive D C) (some_unsettled D C) (unshared s b j D C) refl refl refl refl
     where
       go : (x y z w : Bool) → none_true D C ≡ x → unsettled_positive D C ≡ y → some_unsettled D C ≡ z → unshared s b j D C ≡ w
-          → four x y z w ≡ Fault N P → (P ≡ k) × Dependent s b j D C N
+          → four x y z w ≡ fault N P → (P ≡ k) × Dependent s b j D C N
       go false y z w p q r t e =
-          let (n, here) = same_number e in
+          let (n, here) = same_fault e in
           let (c, inside, opposite-inside) = found_true D C p in
           (here, made_true n c inside opposite-inside)
       go true false z w p q r t e =
-          let (n, here) = same_number e in
+          let (n, here) = same_fault e in
           let (c, inside, unsettled, negative) = found_negative D C q in
           (here, negative_yet n (none_true_lem D C p) c inside unsettled negative)
       go true true false w p q r t e =
-          let (n, here) = same_number e in
+          let (n, here) = same_fault e in
           (here, all_settled n (none_true_lem D C p) (found_settled D C r))
       go true true true false p q r t e =
-          let (n, here) = same_number e in
+          let (n, here) = same_fault e in
           let (v, h, inside, unsettled, a, there) = found_shared s b j D C t in
           (here, shared_yet n (none_true_lem D C p) (unsettled_positive_lem D C q) v h inside unsettled a.0 (omega (arith, a.0, a.1)) there)
       go true true true true p q r t e = absurd (not_fine e)
 
-  found_depends : (N : ℕ) → Dependent s b j D C N → depends_on s b k j D C ≡ Fault N k
+  found_depends : (N : ℕ) → Dependent s b j D C N → depends_on s b k j D C ≡ fault N k
   unfolding depends_on true_finding negative_finding settled_finding shared_finding
   found_depends N (made_true n c inside opposite-inside) =
       rw (n, false_i (none_true D C) (λ p. none_true_lem D C p c inside opposite-inside))
@@ -133,7 +125,7 @@ module _ (s b : List ℕ) (k j : ℕ) (D C : List ℕ) where
 -- ---- all cited clauses
 
 -- the finding is the refusal N at the step exactly when N is the first that applies to the first clause to which one applies
-first_dependent : (s b : List ℕ) (k N P : ℕ) → (dependence s b k ≡ Fault N P) ↔ ((P ≡ k) × FirstDependent s b N)
+first_dependent : (s b : List ℕ) (k N P : ℕ) → (dependence s b k ≡ fault N P) ↔ ((P ≡ k) × FirstDependent s b N)
 unfolding dependence
 first_dependent s b k N P = (
   λ e.
@@ -141,7 +133,7 @@ first_dependent s b k N P = (
       let (place, dependent) = depends_found s b k j (literals b) (cited_clause s b j) N P here in
       (place, (j, w, λ h l m. depends_fits s b k h (literals b) (cited_clause s b h) (before h l m), dependent)),
   λ (place, (j, w, before, dependent)).
-      found_over (λ j. depends_on s b k j (literals b) (cited_clause s b j)) (cited_count b) (Fault N P) refl (
+      found_over (λ j. depends_on s b k j (literals b) (cited_clause s b j)) (cited_count b) (fault N P) refl (
         j,
         w,
         λ h l m. fits_depends s b k h (literals b) (cited_clause s b h) (before h l m),
@@ -150,7 +142,7 @@ first_dependent s b k N P = (
 )
 
 -- all cited clauses, and then the bound
-set_refused : (s b : List ℕ) (k N P : ℕ) → ((dependence s b k then independent_bound s b k) ≡ Fault N P) ↔ ((P ≡ k) × RefusedIndependent s b N)
+set_refused : (s b : List ℕ) (k N P : ℕ) → ((dependence s b k then independent_bound s b k) ≡ fault N P) ↔ ((P ≡ k) × RefusedIndependent s b N)
 unfolding independent_bound
 set_refused s b k N P = (
   λ e. elim (then_found (dependence s b k) (independent_bound s b k) N P e) [
@@ -164,48 +156,28 @@ set_refused s b k N P = (
   ],
 )
   where
-    other : (same : Bool) → eqb (bound b) (independent_cost s b) ≡ same → IsFine (dependence s b k) → need same 15 k ≡ Fault N P
+    other : (same : Bool) → eqb (bound b) (independent_cost s b) ≡ same → IsFine (dependence s b k) → need same 15 k ≡ fault N P
         → (P ≡ k) × RefusedIndependent s b N
     other true e fine q = absurd (not_fine q)
     other false e fine q =
-        (cc, inr (cc, dependence_fits s b k fine, eqb-false (bound b) (independent_cost s b) e))
+        let (n, here) = same_fault q in
+        (here, inr (n, dependence_fits s b k fine, eqb-false (bound b) (independent_cost s b) e))
 
--- ---- the judgement: no other kind has one of these numbers
+-- ---- the judgement: this kind alone has these numbers
 
-abbrev Plain : Finding → Type 0
-Plain f = Faults (λ N P. is_of_independent N ≡ false) f
-
-of_kind : (N : ℕ) → is_of_independent N ≡ true → is_of_kind N ≡ true
+of_kind : (N : ℕ) → is_of_independent N ≡ true → (is_of_kind N ≡ true) × (teller N ≡ IndependentSet)
 of_kind N four = elim (or_e (eqb N 14 || eqb N 15 || eqb N 20 || eqb N 21) (eqb N 22) four) [
   | inl p ↦ elim (or_e (eqb N 14 || eqb N 15 || eqb N 20) (eqb N 21) p) [
     | inl q ↦ elim (or_e (eqb N 14 || eqb N 15) (eqb N 20) q) [
-      | inl u ↦ elim (or_e (eqb N 14) (eqb N 15) u) [ inl x ↦ rw (eqb-true N 14 x) | inr x ↦ rw (eqb-true N 15 x) ]
-      | inr x ↦ rw (eqb-true N 20 x)
+      | inl u ↦ elim (or_e (eqb N 14) (eqb N 15) u) [ inl x ↦ rw (eqb-true N 14 x) (refl, refl) | inr x ↦ rw (eqb-true N 15 x) (refl, refl) ]
+      | inr x ↦ rw (eqb-true N 20 x) (refl, refl)
     ]
-    | inr x ↦ rw (eqb-true N 21 x)
+    | inr x ↦ rw (eqb-true N 21 x) (refl, refl)
   ]
-  | inr x ↦ rw (eqb-true N 22 x)
+  | inr x ↦ rw (eqb-true N 22 x) (refl, refl)
 ]
 
 module _ (s r : List ℕ) where
-  ruleset plain = (then_faults, over_faults, need_faults, fine_faults)
-
-  kind_found : (N P k : ℕ) (K : Kind) → is_of_independent N ≡ true → kind_finding K s r k ≡ Fault N P
-      → (K ≡ IndependentSet) × RefusedIndependent s (step s r k) N
-  unfolding kind_finding copy_finding cost_bound resolution_finding pivot_finding resolvent_finding lesser_bound weights_finding linear_bound
-  kind_found N P k K four = go K
-    where
-      not_plain : (f : Finding) → Plain f → f ≡ Fault N P → ⊥
-      not_plain f plain e = clash four (fault_has (λ N P. is_of_independent N ≡ false) f plain e)
-
-      go : (K : Kind) → kind_finding K s r k ≡ Fault N P → (K ≡ IndependentSet) × RefusedIndependent s (step s r k) N
-      go Copy e = absurd (not_plain _ (search plain) e)
-      go Cost e = absurd (not_plain _ (search plain) e)
-      go IndependentSet e = (refl, ((set_refused s (step s r k) k N P).0 e).1)
-      go Resolvent e = absurd (not_plain _ (search plain depth 12) e)
-      go WeightedSet e = absurd (not_plain _ (search plain depth 12) e)
-      go Unknown e = absurd (not_fine e)
-
   -- what it is to be of kind 3, with a tail in form that cites clauses in order
   citing_by : (k : ℕ) → IsFine (step_form s (step s r k) k) → IsFine (citation s (step s r k) k)
       → kind_of (step s r k) ≡ IndependentSet → CitesClauses s (step s r k)
@@ -221,15 +193,17 @@ module _ (s r : List ℕ) where
         cites = rises_rising (cited b) (clauses s) (cited_count b) risen;
       }
 
-  independent_reached : (N k : ℕ) → is_of_independent N ≡ true → finding s r ≡ Fault N k
+  independent_reached : (N k : ℕ) → is_of_independent N ≡ true → finding s r ≡ fault N k
       → Reached s r k × CitesClauses s (step s r k) × RefusedIndependent s (step s r k) N
+  unfolding kind_finding
   independent_reached N k four e =
-      let f = finding_kind s r N k (of_kind N four) e in
-      let (kind, refused) = kind_found N k k (kind_of (step s r k)) four f.found in
-      (f.reached, citing_by k f.form f.cites kind, refused)
+      let (is_one, told) = of_kind N four in
+      let f = finding_kind s r N k is_one e in
+      let kind = sym (found_kind s r k N f) ∙ told in
+      (f.reached, citing_by k f.form f.cites kind, ((set_refused s (step s r k) k N k).0 (rw kind at f.found)).1)
 
   reached_independent : (N k : ℕ) → Reached s r k → CitesClauses s (step s r k) → RefusedIndependent s (step s r k) N
-      → finding s r ≡ Fault N k
+      → finding s r ≡ fault N k
   unfolding citation cites_fine kind_finding
   reached_independent N k h citing refused =
       let b = step s r k in

@@ -3,15 +3,13 @@
 -- Assumes nothing.
 use Prim.Native.Nat.{ℕ, ◌≤◌, ◌<◌}
 use mathlib.Core.Path.{◌≡◌, refl}
-use mathlib.Core.Bool.{Bool, true, false, not, ◌&&◌}
+use mathlib.Core.Bool.{Bool, true, false, not, cond, ◌&&◌}
 use mathlib.Core.List.{List}
 use mathlib.Core.Logic.{inl, inr}
 use native.Mathlib.Omega.{arith}
 use native.Mathlib.Decide.{dec_lt}
 use lib.Dec.{eqb, leb}
-use Rattle.judgement.specs.declared.Finding.{Finding}
-use Rattle.judgement.specs.declared.Finding.TheVariants.{Fault}
-use Rattle.judgement.specs.Finding.{◌then◌}
+use Rattle.judgement.specs.Finding.{Finding, fault, ◌then◌}
 use Rattle.judgement.specs.Sheet.{sheet_finding}
 use Rattle.judgement.specs.Record.{steps, step, record_finding}
 use Rattle.judgement.specs.declared.Kind.{Kind}
@@ -22,10 +20,9 @@ use Rattle.judgement.specs.Kinds.{copy_finding, cost_bound, independent_bound, p
 use Rattle.judgement.specs.Linear.{weights_finding, linear_bound}
 use Rattle.judgement.specs.Judgement.{oversize, assignment_finding, step_finding, close, finding}
 use Rattle.judgement.specs.Facts.{Among, StepLayout}
-use Rattle.judgement.specs.Refusals.{Reached}
-use Rattle.judgement.proofs.Laws.Scan.{clash}
+use Rattle.judgement.specs.Refusals.{Reached, is_of_independent, is_of_resolution, is_of_linear}
 use Rattle.judgement.proofs.Laws.Findings.{IsFine, fine_is, over_found, found_over, then_found}
-use Rattle.judgement.proofs.Laws.Findings.{Faults, faults_map, fine_faults, need_faults, then_faults, over_faults, fault_has}
+use Rattle.judgement.proofs.Laws.Findings.{Faults, faults_map, faults, not_told, fault_has}
 use Rattle.judgement.proofs.Order.Early.{Early, oversize_early, sheet_early, record_early, assignment_early, form_early, citation_early}
 use Rattle.judgement.proofs.Facts.Layouts.{stored_by, stored_fine}
 use Rattle.judgement.proofs.Facts.Inferences.{step_layout, step_facts, facts_step}
@@ -34,12 +31,22 @@ use Rattle.judgement.proofs.Facts.Inferences.{step_layout, step_facts, facts_ste
 abbrev pub is_of_kind : ℕ → Bool
 is_of_kind number = not (leb number 11) && not (eqb number 19)
 
+-- the kind whose tests tell it
+abbrev pub teller : ℕ → Kind
+teller number =
+    cond (eqb number 12) Copy
+    (cond (eqb number 13) Cost
+    (cond (is_of_independent number) IndependentSet
+    (cond (is_of_resolution number) Resolvent
+    (cond (is_of_linear number) WeightedSet
+    Unknown))))
+
 -- what the form and the citations of step k, and its kind, have found
 pub record KindFound (s r : List ℕ) (k N : ℕ) : Type 0 where
   pub reached : Reached s r k
   pub form : IsFine (step_form s (step s r k) k)
   pub cites : IsFine (citation s (step s r k) k)
-  pub found : kind_finding (kind_of (step s r k)) s r k ≡ Fault N k
+  pub found : kind_finding (kind_of (step s r k)) s r k ≡ fault N k
 
 -- ---- no other test has one of these numbers
 
@@ -50,22 +57,28 @@ early_plain : (f : Finding) → Early f → Plain f
 early_plain f = faults_map (λ N P. leb N 11 ≡ true) (λ N P. is_of_kind N ≡ false) (λ N P e. rw e) f
 
 module _ (s r : List ℕ) where
-  ruleset plain = (then_faults, over_faults, need_faults, fine_faults)
-
   close_plain : Plain (close s r)
   unfolding close
-  close_plain = search plain
+  close_plain = search faults
 
-  -- ---- a kind tells its refusals at the step
+  -- ---- a kind tells its own refusals, and at the step
 
-  pub kind_here : (k : ℕ) (K : Kind) → Faults (λ N P. (is_of_kind N ≡ true) × (P ≡ k)) (kind_finding K s r k)
+  abbrev pub Here : ℕ → Kind → ℕ → ℕ → Type 0
+  Here k K N P = (is_of_kind N ≡ true) × (P ≡ k) × (teller N ≡ K)
+
+  pub kind_here : (k : ℕ) (K : Kind) → Faults (Here k K) (kind_finding K s r k)
   unfolding kind_finding copy_finding cost_bound true_finding negative_finding settled_finding shared_finding depends_on dependence independent_bound resolution_finding pivot_finding resolvent_finding lesser_bound weights_finding linear_bound
-  kind_here k Copy = search plain
-  kind_here k Cost = search plain
-  kind_here k IndependentSet = search plain depth 12
-  kind_here k Resolvent = search plain depth 12
-  kind_here k WeightedSet = search plain depth 12
+  kind_here k Copy = search faults
+  kind_here k Cost = search faults
+  kind_here k IndependentSet = search faults depth 12
+  kind_here k Resolvent = search faults depth 12
+  kind_here k WeightedSet = search faults depth 12
   kind_here k Unknown = tt
+
+  pub found_kind : (k N : ℕ) → KindFound s r k N → teller N ≡ kind_of (step s r k)
+  found_kind k N f =
+      let K = kind_of (step s r k) in
+      (fault_has (Here k K) (kind_finding K s r k) (kind_here k K) f.found).2
 
   -- ---- what the tests have shown that come before the tail of step k
 
@@ -87,34 +100,30 @@ module _ (s r : List ℕ) where
           rw e (step_layout s (step s r k) k form)
 
   module _ (N P : ℕ) (mine : is_of_kind N ≡ true) where
-    -- such a finding is not what is told
-    not_plain : (f : Finding) → Plain f → f ≡ Fault N P → ⊥
-    not_plain f plain e = clash mine (fault_has (λ N P. is_of_kind N ≡ false) f plain e)
+    skip : (f g : Finding) → Early f → f then g ≡ fault N P → IsFine f × (g ≡ fault N P)
+    skip f g early e = elim (then_found f g N P e) [ inl q ↦ absurd (not_told is_of_kind f mine (early_plain f early) q) | inr q ↦ q ]
 
-    skip : (f g : Finding) → Early f → f then g ≡ Fault N P → IsFine f × (g ≡ Fault N P)
-    skip f g early e = elim (then_found f g N P e) [ inl q ↦ absurd (not_plain f (early_plain f early) q) | inr q ↦ q ]
-
-    stay : (f g : Finding) → Plain g → f then g ≡ Fault N P → f ≡ Fault N P
-    stay f g plain e = elim (then_found f g N P e) [ inl q ↦ q | inr q ↦ absurd (not_plain g plain q.1) ]
+    stay : (f g : Finding) → Plain g → f then g ≡ fault N P → f ≡ fault N P
+    stay f g plain e = elim (then_found f g N P e) [ inl q ↦ q | inr q ↦ absurd (not_told is_of_kind g mine plain q.1) ]
 
     -- the form of step k and what it cites are fine, and this is what its kind finds
-    step_found : (k : ℕ) → step_finding s r k ≡ Fault N P
+    step_found : (k : ℕ) → step_finding s r k ≡ fault N P
         → IsFine (step_form s (step s r k) k) × IsFine (citation s (step s r k) k)
-        × (P ≡ k) × (kind_finding (kind_of (step s r k)) s r k ≡ Fault N P)
+        × (P ≡ k) × (kind_finding (kind_of (step s r k)) s r k ≡ fault N P)
     unfolding step_finding
     step_found k e =
         let b = step s r k in
         let (form, after-form) = skip (step_form s b k) _ (form_early s b k) e in
         let (cites, after-cites) = skip (citation s b k) _ (citation_early s b k) after-form in
-        (form, cites, (fault_has (λ N P. (is_of_kind N ≡ true) × (P ≡ k)) (kind_finding (kind_of b) s r k) (kind_here k (kind_of b)) after-cites).1, after-cites)
+        (form, cites, (fault_has (Here k (kind_of b)) (kind_finding (kind_of b) s r k) (kind_here k (kind_of b)) after-cites).1, after-cites)
 
-    found_there : (k : ℕ) → P ≡ k → {f : Finding} → f ≡ Fault N P → f ≡ Fault N k
+    found_there : (k : ℕ) → P ≡ k → {f : Finding} → f ≡ fault N P → f ≡ fault N k
     found_there k place e = rw place at e
 
     told_there : (k : ℕ) → P ≡ k → KindFound s r k N → KindFound s r P N
     told_there k place f = rw place f
 
-    pub finding_kind : finding s r ≡ Fault N P → KindFound s r P N
+    pub finding_kind : finding s r ≡ fault N P → KindFound s r P N
     unfolding finding
     finding_kind e =
         let (size, after_size) = skip (oversize s r) _ (oversize_early s r) e in
@@ -130,7 +139,7 @@ module _ (s r : List ℕ) where
           found = found_there k place found;
         }
 
-  pub kind_finding_lem : (N k : ℕ) → KindFound s r k N → finding s r ≡ Fault N k
+  pub kind_finding_lem : (N k : ℕ) → KindFound s r k N → finding s r ≡ fault N k
   unfolding finding step_finding
   kind_finding_lem N k f =
       let h = f.reached in
@@ -140,12 +149,12 @@ module _ (s r : List ℕ) where
         fine_is (sheet_finding s) sheet,
         fine_is (record_finding s r) layout,
         fine_is (assignment_finding s r) plan,
-        found_over (step_finding s r) (steps r) (Fault N k) refl (k, h.among, earlier h, here),
+        found_over (step_finding s r) (steps r) (fault N k) refl (k, h.among, earlier h, here),
       )
     where
       earlier : Reached s r k → (g : ℕ) → 1 ≤ g → g < k → IsFine (step_finding s r g)
       earlier h g l m = facts_step s r g h.stored.sheet.lists (h.forms g l (omega arith)) (h.inferences g l m)
 
-      here : step_finding s r k ≡ Fault N k
+      here : step_finding s r k ≡ fault N k
       here =
           rw (fine_is (step_form s (step s r k) k) f.form, fine_is (citation s (step s r k) k) f.cites) f.found

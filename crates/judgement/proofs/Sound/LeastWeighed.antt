@@ -8,6 +8,7 @@ use mathlib.Core.Bool.{Bool, true, false, not, cond}
 use mathlib.Core.List.{List}
 use mathlib.Core.Logic.{◌⊎◌, inl, inr}
 use native.Mathlib.Omega.{arith}
+use native.Mathlib.Nat.{le-mul_of_pos_right}
 use native.Mathlib.Decide.{dec_lt}
 use lib.Dec.{ltb, le→leb}
 use lib.IntN.{ℤ, pos, negsuc, ◌-ℤ◌, ◌*ℤ◌}
@@ -307,11 +308,6 @@ total_least s b valid list cites = record { reached = (best, cheapest_falsifies 
 
 -- ---- a model is weighed at most d times what its true variables cost, so that what a step of kind 5 states is entailed
 
--- a number counted once or more
-times_most : (y k : ℕ) → 1 ≤ k → y ≤ y * k
-times_most y zero h = absurd (omega (arith, h))
-times_most y (suc k) h = omega arith
-
 -- a satisfied clause has a true literal
 some_true : (α : Assignment) (C : List ℕ) → Satisfies α (holds C) → 1 ≤ true_literals α C
 some_true α C (c, held, t) =
@@ -326,7 +322,7 @@ unfolding sum_of
 weights_paid s e α zero each = omega arith
 weights_paid s e α (suc q) each =
     let earlier = weights_paid s e α q (λ j w. each j (w.0, omega (arith, w.1))) in
-    let last = times_most (weight e (suc q)) (true_literals α (entry_clause s e (suc q))) (some_true α (entry_clause s e (suc q)) (each (suc q) (omega arith, omega arith))) in
+    let last = le-mul_of_pos_right (weight e (suc q)) (some_true α (entry_clause s e (suc q)) (each (suc q) (omega arith, omega arith))) in
     omega (arith, earlier, last)
 
 pub linear_entailed : (s b : List ℕ) → ValidSheet s → Linear s b → Entailed (problem_of s) (stated b)
