@@ -1,8 +1,8 @@
 -- Laws of lists whose variables rise, looked at by several literals at a time, at some of them twice.
 -- Assumes nothing.
 use Prim.Native.Nat.{ℕ, suc, ◌+◌, ◌-◌, ◌*◌, ◌/◌, ◌%◌, ◌≤◌, ◌<◌}
-use mathlib.Core.Path.{◌≡◌, refl, sym}
-use mathlib.Core.Bool.{Bool, true, false, not, ◌&&◌, and-true, and-false, and_assoc}
+use mathlib.Core.Path.{◌≡◌, refl, sym, ap, ◌∙◌}
+use mathlib.Core.Bool.{Bool, true, false, ◌&&◌, and-true, and-false}
 use mathlib.Core.List.{List}
 use native.Mathlib.Nat.{zero-add}
 use native.Mathlib.Numerals.{add-one}
@@ -10,10 +10,11 @@ use native.Mathlib.Omega.{arith}
 use native.Mathlib.Decide.{dec_lt}
 use lib.Dec.{leb, ltb}
 use lib.ListN.{length}
-use borrow.Author.Tests.{not-true, not-false, eq-eqb, lt-ltb, le-ltb, le-leb, lt-leb}
+use borrow.Author.Tests.{eq-eqb, lt-ltb, le-ltb, le-leb, lt-leb}
 use Rattle.judgement.specs.Number.{number_at}
+use Rattle.judgement.specs.Scan.{all_of}
 use Rattle.judgement.specs.Literals.{count, variable, literals_fine}
-use Rattle.judgement.proofs.Laws.Scan.{clash, false_i, and_l, and_r, all_each, all_of_lem}
+use Rattle.judgement.proofs.Laws.Scan.{clash, false_i, and_i, all_each, all_of_lem}
 use Rattle.layout.proofs.Literals.{variable_next, rises_ends}
 use Rattle.layout.specs.Rise.{is_rise, rises_from}
 
@@ -28,6 +29,16 @@ rise_each part i k p m l h =
 rise_of : (part : List ℕ) (i k : ℕ) → ((m : ℕ) → i < m → m ≤ i + k → is_rise part m ≡ true) → rises_from part i k ≡ true
 unfolding rises_from
 rise_of part i k h = all_of_lem (λ j. is_rise part (i + j)) k (λ j w. h (i + j) (omega (arith, w.0)) (omega (arith, w.1)))
+
+-- literal i + j + 1 is one more, x the code of the one before it and y its own
+pub rises_more : (part : List ℕ) (i j : ℕ) {x y : ℕ} {fine : Bool} → fine ≡ rises_from part i j → x ≡ number_at part (2 * (i + j)) 2
+    → y ≡ number_at part (2 * (i + j + 1)) 2 → fine && ltb (x / 2) (y / 2) ≡ rises_from part i (j + 1)
+unfolding rises_from all_of
+rises_more part i j e a b =
+    let k : i + j + 1 ≡ i + (j + 1) = omega arith in
+    let next : j + 1 ≡ suc j = add-one j in
+    rw (e, variable_next part (i + j) a, variable_next part (i + j + 1) b)
+    (ap (λ m. rises_from part i j && is_rise part m) k ∙ rw next)
 
 -- ---- parts of a list
 
@@ -49,7 +60,7 @@ module _ (part : List ℕ) (i k a c : ℕ) where
       go m b e (yes d) = rise_each part a c q m (omega arith) (omega arith)
       go m b e (no d) = rise_each part i k p m b (omega arith)
 
--- ---- two looks, the second one after `fine`, the answer of the first
+-- ---- the last c and the first c of k literals
 
 -- both hold exactly where the whole does
 both : (x y whole : Bool) → (x ≡ true → y ≡ true → whole ≡ true) → (whole ≡ true → x ≡ true) → (whole ≡ true → y ≡ true)
@@ -60,27 +71,21 @@ both true false false f g h = refl
 both false y true f g h = g refl
 both false y false f g h = refl
 
-pub rises_two : (part : List ℕ) (i k a c n : ℕ) → i ≤ a → a ≤ i + k → k ≤ n → a + c ≡ i + n
-    → rises_from part i k && rises_from part a c ≡ rises_from part i n
-rises_two part i k a c n l m h e =
-    both (rises_from part i k) (rises_from part a c) (rises_from part i n) (rises_join part i k a c n m (omega arith))
-    (rises_part part i n i k (omega arith) (omega arith)) (rises_part part i n a c l (omega arith))
+module _ (part : List ℕ) (k c : ℕ) (l : c ≤ k) where
+  ends_last : rises_from part 0 k ≡ true → rises_from part (k - c) c ≡ true
+  ends_last = rises_part part 0 k (k - c) c (omega arith) (omega arith)
 
--- c literals more, right after the first k
-pub rises_append : (part : List ℕ) (i k c : ℕ) (before : Bool) {fine r : Bool} → fine ≡ before && rises_from part i k
-    → r ≡ fine && rises_from part (i + k) c → r ≡ before && rises_from part i (k + c)
-rises_append part i k c before e h =
-    let t = rises_two part i k (i + k) c (k + c) (omega arith) (omega arith) (omega arith) (omega arith) in
-    rw (h, e, and_assoc before (rises_from part i k) (rises_from part (i + k) c), t)
+  ends_first : rises_from part 0 k ≡ true → rises_from part 0 c ≡ true
+  ends_first = rises_part part 0 k 0 c (omega arith) (omega arith)
 
-module _ {x y fine r : Bool} (e : fine ≡ x) (h : r ≡ fine && y) where
-  pub looks_hold : not r ≡ false → (x ≡ true) × (y ≡ true)
-  looks_hold n =
-      let p : x && y ≡ true = rw (← e, ← h) (not-false r n) in
-      (and_l x y p, and_r x y p)
+  pub ends_fail : rises_from part (k - c) c && rises_from part 0 c ≡ false → rises_from part 0 k ≡ false
+  ends_fail e = false_i (rises_from part 0 k) (λ p. clash (and_i _ _ (ends_last p) (ends_first p)) e)
 
-  pub looks_fail : {whole : Bool} → not r ≡ true → (whole ≡ true → x ≡ true) → (whole ≡ true → y ≡ true) → whole ≡ false
-  looks_fail {whole} n f g = false_i whole (λ p. clash (rw (h, e, f p, g p)) (not-true r n))
+  -- where they overlap, they are all
+  pub ends_rise : k ≤ 2 * c → rises_from part (k - c) c && rises_from part 0 c ≡ rises_from part 0 k
+  ends_rise h =
+      both (rises_from part (k - c) c) (rises_from part 0 c) (rises_from part 0 k)
+      (λ p q. rises_join part 0 c (k - c) c k (omega arith) (omega arith) q p) ends_last ends_first
 
 -- ---- a whole list: the first literal, and k after it
 
@@ -103,8 +108,3 @@ module _ (n : ℕ) (part : List ℕ) (k : ℕ) (z : length part ≡ 2 * (k + 1))
       let f = lt-ltb 0 (variable part 1) (omega arith) in
       let t = le-leb (variable part (k + 1)) n (rw (← variable_next part k d) h) in
       rw (literals_ends, f, t, and-true)
-
--- the last variable is held against n
-pub beyond_last : (n : ℕ) (part : List ℕ) → length part % 2 ≡ 0 → 1 ≤ length part → n < number_at part (2 * (length part / 2 - 1)) 2 / 2
-    → literals_fine n part ≡ false
-beyond_last n part even some h = last_beyond n part (length part / 2 - 1) (omega arith) refl h

