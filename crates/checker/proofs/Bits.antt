@@ -1,14 +1,24 @@
 -- What a signed local holds. The machine keeps the bits of an integer, and each operation reads the integer back: `to_z w64` of
 -- `of_z w64`. Where the integer is small, what is read back is the integer itself.
 -- Assumes nothing.
-use Rattle.std.proofs.Common.{◌≡◌, ℕ, zero, suc, ◌+◌, ◌-◌, ◌*◌, ◌/◌, ◌%◌, ◌^◌, ◌<◌, ◌≤◌, Bool, true, false, cond, T, ℤ, pos, negsuc, ◌+ℤ◌, ◌-ℤ◌, neg_ℤ, nat_abs, sym, refl, true≢false, mul-le-mul, div-le_self, arith, w64, Fits, SFits, to_z, of_z, ltb-true, leb-true}
+use Rattle.std.proofs.Common.{◌≡◌, ℕ, zero, suc, ◌+◌, ◌-◌, ◌*◌, ◌/◌, ◌%◌, ◌^◌, ◌<◌, ◌≤◌, min, Bool, true, false, cond, ℤ, pos, negsuc, ◌+ℤ◌, ◌-ℤ◌, neg_ℤ, nat_abs, sym, refl, mul-le-mul, div-le_self, arith, w64, SFits, to_z, of_z, lt-ltb}
 use native.Mathlib.Nat.{div-eq_of_lt}
-use lib.Signed.{mag, le_z, lt_z, quot_z, non_neg}
+use lib.Signed.{mag}
 use mir.ValLaws.{to_z-of_z, to_z_pos}
+use Rattle.std.specs.Int.{int_min, int_max, div_ceil}
+use Rattle.std.proofs.Math.Nat.{div-add-mod, mul-add-div, add-div_left}
 use Rattle.judgement.specs.Meaning.{is_positive}
 use Rattle.judgement.specs.Integers.{below_zero, rounded_up}
 use Rattle.checker.specs.Weighing.{shift}
-use Rattle.judgement.proofs.Laws.Integers.{up, down, Diff, pos_diff, add_diff, minus_diff, same_diff, size_parts}
+use Rattle.judgement.proofs.Laws.Integers.{up, down, Diff, add_diff, size_parts}
+
+-- ---- a difference of naturals in 64 bits
+
+pub wrapped_fits : (x : ℕ) → x % 2 ^ 64 < 2 ^ 64
+wrapped_fits x = omega arith
+
+pub wrapped_back : (a b : ℕ) → a < 2 ^ 64 → b ≤ 2 ^ 64 → ((a + (2 ^ 64 - b)) % 2 ^ 64 + b) % 2 ^ 64 ≡ a
+wrapped_back a b h l = omega arith
 
 -- ---- small integers
 
@@ -35,80 +45,39 @@ less_size (negsuc n) = omega arith
 
 -- ---- rounding up
 
--- the total as a test left it
-pub not_positive : (z : ℤ) (d : ℕ) → nat_abs z < 2 ^ 63 → 1 ≤ d → le_z (to_z w64 (of_z w64 z)) (pos 0) ≡ true → 0 ≡ rounded_up z d
-not_positive z d h l t = go z (rw (back z h) at t)
+-- a quotient, and 1 more where something is left over
+ceil_is : (n d : ℕ) → 1 ≤ d → div_ceil n d ≡ (n + (d - 1)) / d
+ceil_is n d l = rw (split, mul-add-div l (n / d) (n % d + (d - 1)), ← rest (n % d) (omega (arith, l))) refl
   where
-    go : (z : ℤ) → le_z z (pos 0) ≡ true → 0 ≡ rounded_up z d
-    go (pos n) t =
-        let e : n ≡ 0 = omega (arith, leb-true n 0 t) in
-        rw e (sym (div-eq_of_lt (omega arith)))
-    go (negsuc n) t = refl
+    split : n + (d - 1) ≡ d * (n / d) + (n % d + (d - 1))
+    split = omega (arith, div-add-mod n d)
 
-pub positive_total : (z : ℤ) → nat_abs z < 2 ^ 63 → le_z (to_z w64 (of_z w64 z)) (pos 0) ≡ false → z ≡ pos (nat_abs z)
-positive_total z h t = go z (rw (back z h) at t)
-  where
-    go : (z : ℤ) → le_z z (pos 0) ≡ false → z ≡ pos (nat_abs z)
-    go (pos n) t = refl
-    go (negsuc n) t = absurd (true≢false t)
+    rest : (r : ℕ) → r < d → min 1 r ≡ (r + (d - 1)) / d
+    rest zero h = sym (div-eq_of_lt (omega arith))
+    rest (suc r) h =
+        let e : suc r + (d - 1) ≡ d + r = omega arith in
+        let one : min 1 (suc r) ≡ 1 = omega arith in
+        rw (e, one, add-div_left r l, div-eq_of_lt h') refl
+      where
+        h' : r < d
+        h' = omega arith
 
-pos_minus : (a b : ℕ) → b ≤ a → pos a -ℤ pos b ≡ pos (a - b)
-pos_minus a b l =
-    same_diff (pos a -ℤ pos b) (pos (a - b)) (a + 0) (0 + b) (minus_diff (pos a) (pos b) a 0 b 0 (pos_diff a) (pos_diff b)) (omega arith)
+-- the total, or 0 where it is below that, rounded up
+pub rounded_read : (z : ℤ) (d : ℕ) → 1 ≤ d → div_ceil (nat_abs (int_max z (pos 0))) d ≡ rounded_up z d
+rounded_read (pos zero) d l = ceil_is 0 d l
+rounded_read (pos (suc n)) d l = rw (lt-ltb 0 (suc n) (omega arith)) (ceil_is (suc n) d l)
+rounded_read (negsuc n) d l = rw (ceil_is 0 d l) (div-eq_of_lt (omega arith))
 
--- d - 1, as it is computed and read back
-pub less_one : (d : ℕ) → 1 ≤ d → d < 2 ^ 16 → to_z w64 d -ℤ pos 1 ≡ pos (d - 1)
-less_one d l h = rw (natural d (omega arith)) (pos_minus d 1 l)
-
-pub sum_read : (z : ℤ) (n d : ℕ) → z ≡ pos n → n < 2 ^ 62 → 1 ≤ d → d < 2 ^ 16
-    → to_z w64 (of_z w64 z) +ℤ to_z w64 (of_z w64 (to_z w64 d -ℤ pos 1)) ≡ pos (n + (d - 1))
-sum_read z n d e b l h = rw (e, less_one d l h, back (pos n) (omega arith), back (pos (d - 1)) (omega arith))
-
-pub quotient_read : (z : ℤ) (n d : ℕ) → z ≡ pos n → n < 2 ^ 62 → 1 ≤ d → d < 2 ^ 16
-    → quot_z (to_z w64 (of_z w64 (to_z w64 (of_z w64 z) +ℤ to_z w64 (of_z w64 (to_z w64 d -ℤ pos 1))))) (to_z w64 d)
-    ≡ pos ((n + (d - 1)) / d)
-quotient_read z n d e b l h =
-    rw (sum_read z n d e b l h, back (pos (n + (d - 1))) (omega arith), natural d (omega arith))
-
-pub quotient_small : (n d : ℕ) → n < 2 ^ 62 → d < 2 ^ 16 → (n + (d - 1)) / d < 2 ^ 63
-quotient_small n d b h =
-    let q = div-le_self (n + (d - 1)) d in
-    omega arith
-
--- the bits of the quotient
-abbrev pub quotient_bits : ℤ → ℕ → ℕ
-quotient_bits z d =
-    of_z w64 (quot_z (to_z w64 (of_z w64 (to_z w64 (of_z w64 z) +ℤ to_z w64 (of_z w64 (to_z w64 d -ℤ pos 1))))) (to_z w64 d))
-
-pub quotient_back : (z : ℤ) (n d : ℕ) → z ≡ pos n → n < 2 ^ 62 → 1 ≤ d → d < 2 ^ 16
-    → to_z w64 (quotient_bits z d) ≡ pos ((n + (d - 1)) / d)
-quotient_back z n d e b l h = rw (quotient_read z n d e b l h) (back (pos ((n + (d - 1)) / d)) (quotient_small n d b h))
-
-pub quotient_casts : (z : ℤ) (n d : ℕ) → z ≡ pos n → n < 2 ^ 62 → 1 ≤ d → d < 2 ^ 16
-    → T (non_neg (to_z w64 (quotient_bits z d))) × Fits w64 (nat_abs (to_z w64 (quotient_bits z d)))
-quotient_casts z n d e b l h =
-    let q = quotient_small n d b h in
-    rw (quotient_back z n d e b l h) (tt, record { fits = omega arith })
-
-pub rounded_read : (z : ℤ) (n d : ℕ) → z ≡ pos n → n < 2 ^ 62 → 1 ≤ d → d < 2 ^ 16
-    → (nat_abs (to_z w64 (quotient_bits z d)) ≡ rounded_up z d) × (nat_abs (to_z w64 (quotient_bits z d)) < 2 ^ 63)
-rounded_read z n d e b l h = rw (quotient_back z n d e b l h, e) (refl, quotient_small n d b h)
+pub rounded_small : (z : ℤ) (d : ℕ) → nat_abs z < 2 ^ 62 → d < 2 ^ 16 → rounded_up z d < 2 ^ 63
+rounded_small (pos n) d b h = let q = div-le_self (n + (d - 1)) d in omega arith
+rounded_small (negsuc n) d b h = omega arith
 
 -- ---- the lesser of an integer and 0
 
-pub less_read : (z : ℤ) → SFits w64 z → lt_z (to_z w64 (of_z w64 z)) (pos 0) ≡ true → to_z w64 (of_z w64 z) ≡ below_zero z
-less_read z f t = rw (to_z-of_z w64 z f) (go z (rw (to_z-of_z w64 z f) at t))
-  where
-    go : (z : ℤ) → lt_z z (pos 0) ≡ true → z ≡ below_zero z
-    go (pos n) t = absurd (omega (arith, ltb-true n 0 t))
-    go (negsuc n) t = refl
-
-pub zero_read : (z : ℤ) → SFits w64 z → lt_z (to_z w64 (of_z w64 z)) (pos 0) ≡ false → pos 0 ≡ below_zero z
-zero_read z f t = go z (rw (to_z-of_z w64 z f) at t)
-  where
-    go : (z : ℤ) → lt_z z (pos 0) ≡ false → pos 0 ≡ below_zero z
-    go (pos n) t = refl
-    go (negsuc n) t = absurd (true≢false t)
+pub min_zero : (z : ℤ) → int_min z (pos 0) ≡ below_zero z
+min_zero (pos zero) = refl
+min_zero (pos (suc n)) = rw (lt-ltb 0 (suc n) (omega arith))
+min_zero (negsuc n) = refl
 
 -- ---- values that the machine is known to hold: a parameter (`c.fits.x.sfits`), a call's result (`.ok`), an element (`.given`)
 
@@ -154,16 +123,10 @@ minus_back z w e f a b =
     let s = minus_size z w in
     rw (e, f) (back (z -ℤ w) (omega arith))
 
-pub less_back : (x r : ℤ) → Held x → Held r → r ≡ below_zero (again x) → again r ≡ below_zero x
-less_back x r hx hr e = rw (held r hr, e, held x hx)
+pub less_back : (x r : ℤ) → Held x → Held r → r ≡ int_min (again x) (pos 0) → again r ≡ below_zero x
+less_back x r hx hr e = rw (held r hr, e, held x hx) (min_zero x)
 
 -- ---- a literal's weight, where w is y or 0
-
-pub shifted_size : (x : ℤ) (w y : ℕ) → nat_abs (x +ℤ pos (2 * w) -ℤ pos y) ≤ nat_abs x + 2 * w + y
-shifted_size x w y =
-    let a = add_size x (pos (2 * w)) in
-    let b = minus_size (x +ℤ pos (2 * w)) (pos y) in
-    omega (arith, a, b)
 
 pub product_small : (d x : ℕ) → d < 2 ^ 16 → x < 2 ^ 32 → d * x ≤ 2 ^ 48
 product_small d x a b = mul-le-mul {n₁ = d} {m₁ = x} {n₂ = 2 ^ 16} {m₂ = 2 ^ 32} (omega arith) (omega arith)
@@ -185,11 +148,3 @@ shift_bound c y h = go (is_positive c)
     go : (b : Bool) → nat_abs (cond b (neg_ℤ (pos y)) (pos y)) ≤ 2 ^ 16
     go true = let e = neg_size (pos y) in omega (arith, e, h)
     go false = omega (arith, h)
-
-pub again_right : (x w : ℤ) → Held w → x +ℤ again w ≡ x +ℤ w
-again_right x w h = rw (held w h)
-
-pub weight_small : (c y : ℕ) → y < 2 ^ 16 → c % 2 * y < 2 ^ 16
-weight_small c y h =
-    let s = mul-le-mul {n₁ = c % 2} {m₁ = y} {n₂ = 1} {m₂ = y} (omega arith) (omega arith) in
-    omega arith

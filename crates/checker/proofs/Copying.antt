@@ -1,150 +1,86 @@
--- Laws of kind 1: lists of literals that are compared by several literals at a time, at some of them twice, and what of a step's
--- form follows from a clause's.
+-- Laws of kind 1: lists of literals that are compared as bytes, and what of a step's form follows from a clause's.
 -- Assumes nothing.
-use Rattle.std.proofs.Common.{◌≡◌, ℕ, ◌+◌, ◌-◌, ◌*◌, ◌^◌, ◌<◌, ◌≤◌, Bool, true, false, ◌&&◌, eqb, leb, List, length, drop, sym, refl, ◌∙◌, zero-add, arith, length-drop, length-take, eq-eqb, eqb-true, le-leb, leb-true}
-use mathlib.Core.Bool.{and_assoc, and_comm}
-use native.Mathlib.Decide.{dec_lt}
-use Rattle.judgement.specs.Scan.{all_of}
+use Rattle.std.proofs.Common.{◌≡◌, ℕ, ◌+◌, ◌-◌, ◌*◌, ◌/◌, ◌%◌, ◌^◌, ◌<◌, ◌≤◌, Bool, true, false, ◌&&◌, eqb, leb, List, length, get_or, take, drop, sym, refl, ◌∙◌, arith, length-drop, length-take, eq-eqb, eqb-true, le-leb, leb-true}
+use Rattle.std.proofs.lemmas.Bool.Decides.{Decides-eqb}
+use Rattle.std.proofs.lemmas.List.{ext_get_or, get_or_past, get_or-take, get_or-drop}
+use Rattle.std.proofs.lemmas.Slice.Eq.{slice_eq-Decides}
+use Rattle.std.specs.Cmp.Lexicographic.{pointwise}
+use native.Mathlib.Decide.{ℕ_discrete, dec_lt}
 use Rattle.judgement.specs.Meaning.{none}
 use Rattle.judgement.specs.Number.{number_at}
+use Rattle.judgement.specs.Pairs.{body}
 use Rattle.judgement.specs.Literals.{count, code, same_literals, literals_fine}
-use Rattle.judgement.specs.declared.Finding.TheVariants.{Fine, Fault}
-use Rattle.judgement.specs.Finding.{need, ◌then◌}
-use Rattle.judgement.specs.Sheet.{variables, clauses, clause_pairs_at}
+use Rattle.std.specs.Prelude.{Ok}
+use Rattle.judgement.specs.Finding.{fault, need, ◌then◌}
+use Rattle.judgement.specs.Sheet.{variables, clauses}
 use Rattle.judgement.specs.declared.Kind.TheVariants.{Copy}
 use Rattle.judgement.specs.Step.{kind_of, literal_count, bound, literals, tail, cited, cited_clause, tail_fine, form_fine, step_form, cites_fine, citation}
 use Rattle.judgement.specs.Kinds.{copy_finding}
 use Rattle.judgement.specs.Demands.{IsBytes}
 use Rattle.judgement.specs.Facts.{Among, LiteralList, ValidSheet}
-use Rattle.judgement.proofs.Laws.Scan.{true_same, false_i, and_i, and_l, and_r, all_each, all_of_lem}
+use Rattle.judgement.proofs.Laws.Scan.{true_same, and_l, and_r, all_each, all_of_lem}
 use Rattle.judgement.proofs.Laws.Findings.{need_true}
 use Rattle.judgement.proofs.Laws.Lists.{list_fine}
-use Rattle.layout.proofs.Number.{number_split}
 use Rattle.checker.specs.Known.{Formed}
-use Rattle.checker.specs.Read.{Within}
-use Rattle.checker.specs.Copy.{same_from, is_copied, copies}
-use Rattle.checker.proofs.Body.{pair_within}
+use Rattle.checker.specs.Copy.{is_copied, copies}
 use Rattle.checker.proofs.Known.{fine_need}
 
--- ---- four codes in one number
+-- ---- lists of bytes
 
-number_four : (s : List ℕ) (i : ℕ)
-    → number_at s (2 * i) 8 ≡ code s (i + 1) + 2 ^ 16 * (code s (i + 2) + 2 ^ 16 * (code s (i + 3) + 2 ^ 16 * code s (i + 4)))
-number_four s i =
-    let one : 2 * (i + 1 - 1) ≡ 2 * i = omega arith in
-    let two : 2 * (i + 2 - 1) ≡ 2 * i + 2 = omega arith in
-    let three : 2 * (i + 3 - 1) ≡ 2 * i + 4 = omega arith in
-    let four : 2 * (i + 4 - 1) ≡ 2 * i + 4 + 2 = omega arith in
-    rw (one, two, three, four)
-    (omega (arith, number_split s (2 * i) 4 4, number_split s (2 * i) 2 2, number_split s (2 * i + 4) 2 2))
+-- a part of a file
+bytes_part : (n m : ℕ) (s : List ℕ) → IsBytes s → IsBytes (take n (drop m s))
+bytes_part n m s bytes i = go (dec_lt i n)
+  where
+    go : Dec (i < n) → get_or (take n (drop m s)) i 0 < 256
+    go (yes h) = rw (get_or-take n (drop m s) i 0 h, get_or-drop m s i 0) (bytes (m + i))
+    go (no h) = rw (get_or_past (take n (drop m s)) i 0 (omega (arith, length-take n (drop m s)))) (omega arith)
 
-code_below : (s : List ℕ) → IsBytes s → (i : ℕ) → code s i < 2 ^ 16
+-- a code and the bytes that it is made of
+code_bytes : (s : List ℕ) (i : ℕ) → code s (i + 1) ≡ get_or s (2 * i) 0 + 256 * get_or s (2 * i + 1) 0
 unfolding number_at
-code_below s bytes i = omega (arith, bytes (2 * (i - 1)), bytes (2 * (i - 1) + 1))
+code_bytes s i =
+    let e : 2 * (i + 1 - 1) ≡ 2 * i = omega arith in
+    rw e (omega arith)
 
--- a code and what stands above it are told from the number that they make
-lowest : (a b c d : ℕ) → a < 2 ^ 16 → c < 2 ^ 16 → a + 2 ^ 16 * b ≡ c + 2 ^ 16 * d → (a ≡ c) × (b ≡ d)
-lowest a b c d a-fits c-fits e = (omega arith, omega arith)
+-- two bytes are told from the number that they make
+two_bytes : (a b c d : ℕ) → a < 2 ^ 8 → c < 2 ^ 8 → a + 256 * b ≡ c + 256 * d → (a ≡ c) × (b ≡ d)
+two_bytes a b c d a-fits c-fits e = (omega arith, omega arith)
 
 module _ (part other : List ℕ) where
-  -- ---- literal by literal
+  -- whole codes are the same exactly where the bytes are
+  module _ (bytes : IsBytes part) (others : IsBytes other) (whole : length part ≡ 2 * count part) (other-whole : length other ≡ 2 * count other) where
+    same_bytes : same_literals part other ≡ true → part ≡ other
+    unfolding same_literals
+    same_bytes p = ext_get_or 0 part other (omega (arith, as_long)) (λ i h. each i h (ℕ_discrete (i % 2) 0))
+      where
+        as_long : count part ≡ count other
+        as_long = eqb-true (count part) (count other) (search (and_l))
 
-  same_each : (i k : ℕ) → same_from part other i k ≡ true → (m : ℕ) → i < m → m ≤ i + k → code part m ≡ code other m
-  unfolding same_from
-  same_each i k p m l h =
-      let e : i + (m - i) ≡ m = omega arith in
-      let t = all_each (λ j. eqb (code part (i + j)) (code other (i + j))) k p (m - i) (omega arith, omega arith) in
-      eqb-true (code part m) (code other m) (rw e at t)
+        same : (i : ℕ) → i < count part
+            → (get_or part (2 * i) 0 ≡ get_or other (2 * i) 0) × (get_or part (2 * i + 1) 0 ≡ get_or other (2 * i + 1) 0)
+        same i h =
+            let all = all_each (λ i. eqb (code part i) (code other i)) (count part) (search (and_r)) in
+            let e = eqb-true (code part (i + 1)) (code other (i + 1)) (all (i + 1) (omega arith, omega arith)) in
+            two_bytes _ _ _ _ (bytes (2 * i)) (others (2 * i)) (sym (code_bytes part i) ∙ e ∙ code_bytes other i)
 
-  same_of : (i k : ℕ) → ((m : ℕ) → i < m → m ≤ i + k → code part m ≡ code other m) → same_from part other i k ≡ true
-  unfolding same_from
-  same_of i k h =
-      all_of_lem (λ j. eqb (code part (i + j)) (code other (i + j))) k
-      (λ j w. eq-eqb (code part (i + j)) (code other (i + j)) (h (i + j) (omega (arith, w.0)) (omega (arith, w.1))))
+        each : (i : ℕ) → i < length part → Dec (i % 2 ≡ 0) → get_or part i 0 ≡ get_or other i 0
+        each i h (yes even) =
+            let e : i ≡ 2 * (i / 2) = omega arith in
+            rw e (same (i / 2) (omega arith)).0
+        each i h (no odd) =
+            let e : i ≡ 2 * (i / 2) + 1 = omega arith in
+            rw e (same (i / 2) (omega arith)).1
 
-  -- ---- four at a time
+    same_lists : part ≡ other → same_literals part other ≡ true
+    unfolding same_literals
+    same_lists e =
+        rw (← e, eq-eqb (count part) (count part) refl)
+        (all_of_lem (λ i. eqb (code part i) (code part i)) (count part) (λ i w. eq-eqb (code part i) (code part i) refl))
 
-  four_same : (i : ℕ) → IsBytes part → IsBytes other → number_at part (2 * i) 8 ≡ number_at other (2 * i) 8
-      → same_from part other i 4 ≡ true
-  unfolding same_from all_of
-  four_same i bytes others e =
-      let fits = code_below part bytes in
-      let others-fit = code_below other others in
-      let sum = sym (number_four part i) ∙ e ∙ number_four other i in
-      let (one, up) = lowest _ _ _ _ (fits (i + 1)) (others-fit (i + 1)) sum in
-      let (two, top) = lowest _ _ _ _ (fits (i + 2)) (others-fit (i + 2)) up in
-      let (three, four) = lowest _ _ _ _ (fits (i + 3)) (others-fit (i + 3)) top in
-      rw (eq-eqb _ _ one, eq-eqb _ _ two, eq-eqb _ _ three, eq-eqb _ _ four)
-
-  same_number : (i : ℕ) → same_from part other i 4 ≡ true → number_at part (2 * i) 8 ≡ number_at other (2 * i) 8
-  same_number i p =
-      let one = same_each i 4 p (i + 1) (omega arith) (omega arith) in
-      let two = same_each i 4 p (i + 2) (omega arith) (omega arith) in
-      let three = same_each i 4 p (i + 3) (omega arith) (omega arith) in
-      let four = same_each i 4 p (i + 4) (omega arith) (omega arith) in
-      omega (arith, number_four part i, number_four other i, one, two, three, four)
-
-  pub same_four : (i : ℕ) {x y : ℕ} → IsBytes part → IsBytes other → x ≡ number_at part (2 * i) 8 → y ≡ number_at other (2 * i) 8
-      → eqb x y ≡ same_from part other i 4
-  same_four i {x} {y} bytes others x_is y-is =
-      true_same (eqb x y) (same_from part other i 4)
-      (λ p. four_same i bytes others (sym x_is ∙ eqb-true x y p ∙ y-is))
-      (λ p. eq-eqb x y (x_is ∙ same_number i p ∙ sym y-is))
-
-  -- ---- parts of the lists
-
-  same_part : (i k a c : ℕ) → i ≤ a → a + c ≤ i + k → same_from part other i k ≡ true → same_from part other a c ≡ true
-  same_part i k a c l h p = same_of a c (λ m b e. same_each i k p m (omega arith) (omega arith))
-
-  -- two parts that leave nothing out make a longer one, and may lie one over the other
-  same_two : (i k a c n : ℕ) → i ≤ a → a ≤ i + k → k ≤ n → a + c ≡ i + n
-      → same_from part other i k && same_from part other a c ≡ same_from part other i n
-  same_two i k a c n l m h e =
-      true_same (same_from part other i k && same_from part other a c) (same_from part other i n)
-      (λ p. same_of i n (λ j b f. go (search (p, and_l)) (search (p, and_r)) j b f (dec_lt (i + k) j)))
-      (λ p. and_i _ _ (same_part i n i k (omega arith) (omega arith) p) (same_part i n a c l (omega arith) p))
-    where
-      go : same_from part other i k ≡ true → same_from part other a c ≡ true → (j : ℕ) → i < j → j ≤ i + n → Dec (i + k < j)
-          → code part j ≡ code other j
-      go p q j b f (yes d) = same_each a c q j (omega arith) (omega arith)
-      go p q j b f (no d) = same_each i k p j b (omega arith)
-
-  -- c literals more, right after the first k
-  pub same_append : (i k a c : ℕ) → a ≡ i + k → (before : Bool) {so_far x r : Bool} → so_far ≡ before && same_from part other i k
-      → x ≡ same_from part other a c → r ≡ so_far && x → r ≡ before && same_from part other i (k + c)
-  same_append i k a c a-is before so-far-is x_is r-is =
-      let t = same_two i k a c (k + c) (omega arith) (omega arith) (omega arith) (omega arith) in
-      rw (r-is, so-far-is, x_is, and_assoc before (same_from part other i k) (same_from part other a c), t)
-
-  -- the last c of q literals were looked at first, and k from the beginning reach as far as to them
-  pub same_ends : (q c k : ℕ) {r : Bool} → c ≤ q → k ≤ q → q ≤ k + c → r ≡ same_from part other (q - c) c && same_from part other 0 k
-      → r ≡ same_from part other 0 q
-  same_ends q c k l h m e =
-      e ∙ and_comm (same_from part other (q - c) c) (same_from part other 0 k)
-      ∙ same_two 0 k (q - c) c q (omega arith) (omega arith) h (omega arith)
-
-  -- no literal yet
-  pub same_none : same_from part other 0 0 ≡ true
-  unfolding same_from all_of
-  same_none = refl
-
-  -- one literal more
-  pub same_next : (i : ℕ) → same_from part other 0 i ≡ true → code part (i + 1) ≡ code other (i + 1)
-      → same_from part other 0 (i + 1) ≡ true
-  same_next i p e =
-      let one = same_of i 1 (λ m l h. let z : m ≡ i + 1 = omega arith in rw z e) in
-      sym (same_two 0 i i 1 (i + 1) (omega arith) (omega arith) (omega arith) (omega arith)) ∙ and_i _ _ p one
-
-  -- one literal differs
-  pub same_stop : (i q : ℕ) → i < q → (code part (i + 1) ≡ code other (i + 1) → ⊥) → same_from part other 0 q ≡ false
-  same_stop i q l differ =
-      false_i (same_from part other 0 q) (λ p. differ (same_each 0 q p (i + 1) (omega arith) (omega arith)))
-
-  -- ---- whole lists
-
-  pub same_whole : count part ≡ count other → {r : Bool} → r ≡ same_from part other 0 (count part) → r ≡ same_literals part other
-  unfolding same_from same_literals
-  same_whole e h = rw (eq-eqb (count part) (count other) e) (simp zero-add at h)
+    pub same_slices : {r : Bool} → r ≡ pointwise eqb part other → r ≡ same_literals part other
+    same_slices {r} is =
+        let (to, from) = slice_eq-Decides Decides-eqb part other r is in
+        true_same r (same_literals part other) (λ p. same_lists (to p)) (λ p. from (same_bytes p))
 
   -- a list with the literals of one in form is in form
   same_list : (n : ℕ) → length part ≡ 2 * count part → same_literals part other ≡ true → LiteralList n other → LiteralList n part
@@ -169,13 +105,13 @@ module _ (part other : List ℕ) where
 
 -- ---- a step of kind 1, with the body b
 
--- it has its literals and one citation
-module _ (b : List ℕ) (size : length b ≡ 16 + 2 * literal_count b) where
-  pub whole_tail : length (tail b) ≡ 4
-  whole_tail = omega (arith, size, length-drop (12 + 2 * literal_count b) b)
+-- it has its literals
+whole_list : (b : List ℕ) → 12 + 2 * literal_count b ≤ length b → length (literals b) ≡ 2 * count (literals b)
+whole_list b room = omega (arith, room, length-take (2 * literal_count b) (drop 12 b), length-drop 12 b)
 
-  whole_list : length (literals b) ≡ 2 * count (literals b)
-  whole_list = omega (arith, size, length-take (2 * literal_count b) (drop 12 b), length-drop 12 b)
+-- and one citation
+pub whole_tail : (b : List ℕ) → length b ≡ 16 + 2 * literal_count b → length (tail b) ≡ 4
+whole_tail b size = omega (arith, size, length-drop (12 + 2 * literal_count b) b)
 
 module _ (s b : List ℕ) where
   -- what refusal 12 looks at
@@ -200,12 +136,27 @@ module _ (s b : List ℕ) where
     unfolding copies cites_fine
     passing_cited = search (p, and_l, and_r) depth 8
 
-  module _ (valid : ValidSheet s) (cites : leb 1 (cited b 1) && leb (cited b 1) (clauses s) ≡ true) where
-    cited_among : Among (clauses s) (cited b 1)
-    cited_among = (leb-true 1 (cited b 1) (search (cites, and_l)), leb-true (cited b 1) (clauses s) (search (cites, and_r)))
+  -- a step that passes has as many literals as the clause
+  pub passing_length : 12 + 2 * literal_count b ≤ length b → LiteralList (variables s) (cited_clause s b 1) → copies s b ≡ true
+      → length (cited_clause s b 1) ≡ length (literals b)
+  unfolding copies same_literals
+  passing_length room l p =
+      let C = cited_clause s b 1 in
+      let copied : is_copied s b ≡ true = search (p, and_r) in
+      let same = and_l (same_literals (literals b) C) (eqb (bound b) none) (sym copied_when ∙ copied) in
+      let long = eqb-true (count (literals b)) (count C) (search (same, and_l)) in
+      omega (arith, long, whole_list b room, l.whole)
 
-    pub cited_within : Within s (clause_pairs_at s) (cited b 1)
-    cited_within = pair_within s (clause_pairs_at s) (clauses s) valid.room valid.pairs (cited b 1) cited_among
+  -- what refusal 12 asks, of a step that has its literals and a citation
+  pub copied_bytes : IsBytes s → IsBytes b → 12 + 2 * literal_count b ≤ length b → LiteralList (variables s) (cited_clause s b 1)
+      → {x : Bool} → x ≡ pointwise eqb (literals b) (cited_clause s b 1) → x && eqb (bound b) none ≡ is_copied s b
+  unfolding body
+  copied_bytes of-s of-b room l p =
+      rw (copied_when, ← same_slices _ _ (bytes_part _ 12 b of-b) (bytes_part _ _ s of-s) (whole_list b room) l.whole p)
+
+  module _ (valid : ValidSheet s) (cites : leb 1 (cited b 1) && leb (cited b 1) (clauses s) ≡ true) where
+    pub cited_among : Among (clauses s) (cited b 1)
+    cited_among = (leb-true 1 (cited b 1) (search (cites, and_l)), leb-true (cited b 1) (clauses s) (search (cites, and_r)))
 
     -- one that is as long as it has to be passes exactly where it copies the clause: its literals are then in form as the clause's
     module _ (size : length b ≡ 16 + 2 * literal_count b) where
@@ -214,7 +165,7 @@ module _ (s b : List ℕ) where
           let C = cited_clause s b 1 in
           let same = and_l (same_literals (literals b) C) (eqb (bound b) none) (sym copied_when ∙ p) in
           list_fine (variables s) (literals b)
-          (same_list (literals b) C (variables s) (whole_list b size) same (valid.lists (cited b 1) cited_among))
+          (same_list (literals b) C (variables s) (whole_list b (omega (arith, size))) same (valid.lists (cited b 1) cited_among))
 
       pub copies_is : number_at b 1 1 ≡ 0 → is_copied s b ≡ copies s b
       unfolding copies form_fine tail_fine cites_fine
@@ -232,14 +183,14 @@ module _ (s b : List ℕ) where
   copy_when k = rw copied_when
 
   module _ (k : ℕ) (kind : kind_of b ≡ Copy) where
-    pub copy_fine : copies s b ≡ true → Fine ≡ (step_form s b k then citation s b k then copy_finding s b k)
+    pub copy_fine : copies s b ≡ true → Ok tt ≡ (step_form s b k then citation s b k then copy_finding s b k)
     unfolding copies step_form citation cites_fine
     copy_fine p =
         let form : form_fine Copy s b ≡ true = search (p, and_l) in
         let copied : is_copied s b ≡ true = search (p, and_r) in
         rw (kind, form, passing_cited p, copy_when k, copied)
 
-    pub copy_fault : Formed s b k → copies s b ≡ false → Fault 12 k ≡ copy_finding s b k
+    pub copy_fault : Formed s b k → copies s b ≡ false → fault 12 k ≡ copy_finding s b k
     unfolding copies step_form citation cites_fine
     copy_fault formed e =
         let form = rw kind at (need_true (form_fine (kind_of b) s b) 8 k formed.form) in

@@ -5,8 +5,7 @@ use Rattle.judgement.specs.Scan.{sum_of, one}
 use Rattle.judgement.specs.Meaning.{positive, negative, variable_of, is_positive}
 use Rattle.judgement.specs.Number.{number_at}
 use Rattle.judgement.specs.Literals.{count, code, holds}
-use Rattle.judgement.specs.Pairs.{body}
-use Rattle.judgement.specs.Sheet.{variables, cost_of, clause_pairs_at}
+use Rattle.judgement.specs.Sheet.{variables, clause, cost_of}
 use Rattle.judgement.specs.Step.{divisor, entry_cites, weight}
 use Rattle.judgement.specs.Integers.{sum_of_ℤ}
 use Rattle.judgement.specs.Linear.{entry_clause, weight_of, remainder, negatives, entry_sum, addend, addend_sum, total_of}
@@ -18,7 +17,6 @@ use Rattle.judgement.proofs.Sound.Weighing.{entry_diff}
 use Rattle.judgement.proofs.Laws.Stored.{number_below}
 use Rattle.judgement.proofs.Laws.Cost.{cost_below}
 use Rattle.checker.specs.Prices.{price_at, Prices}
-use Rattle.checker.specs.Read.{Within}
 use Rattle.checker.specs.Weighing.{shift, negative_weight, moved, Weighing, full_of}
 use Rattle.checker.proofs.Bits.{add_size, neg_size, minus_size, product_small}
 use Rattle.checker.proofs.Adding.{turned, rem_to, rem_to_turned, addends_moved, addends_same, addend_close}
@@ -217,19 +215,11 @@ cites_next e j h = rw add-sub_cancel h
 pub weight_next : (e : List ℕ) (j : ℕ) {y : ℕ} → y ≡ number_at e (2 + 6 * j + 4) 2 → y ≡ weight e (j + 1)
 weight_next e j h = rw add-sub_cancel h
 
-pub clause_next : (s e : List ℕ) (j : ℕ) {pairs k : ℕ} {r : List ℕ} → r ≡ body s pairs k → pairs ≡ clause_pairs_at s
-    → k ≡ number_at e (2 + 6 * j) 4 → r ≡ entry_clause s e (j + 1)
-clause_next s e j h p q = rw (h, p, cites_next e j q)
-
-pub within_next : (s e : List ℕ) (j pairs k : ℕ) → pairs ≡ clause_pairs_at s → k ≡ number_at e (2 + 6 * j) 4
-    → Within s (clause_pairs_at s) (entry_cites e (j + 1)) → Within s pairs k
-within_next s e j pairs k p q w = rw (p, cites_next e j q) w
+pub clause_next : (s e : List ℕ) (j : ℕ) {k : ℕ} {r : List ℕ} → r ≡ clause s k → k ≡ number_at e (2 + 6 * j) 4 → r ≡ entry_clause s e (j + 1)
+clause_next s e j h q = rw (h, cites_next e j q)
 
 pub same_list : (n : ℕ) {C C' : List ℕ} → C ≡ C' → LiteralList n C' → LiteralList n C
 same_list n e l = rw e l
-
-pub small_divisor : (e : List ℕ) → IsBytes e → {d : ℕ} → d ≡ divisor e → d < 2 ^ 16
-small_divisor e b h = rw h (number_below 2 e b 0)
 
 -- ---- the next literal, and what its variable costs
 
@@ -246,9 +236,6 @@ module _ (s prices : List ℕ) (v : ℕ) (known : Prices s prices) (a : Among (v
 pub price_full : (s prices e : List ℕ) (d v : ℕ) → d ≡ divisor e → Prices s prices → Among (variables s) v
     → d * price_at prices (2 * v + 1) ≡ full_of s e v
 price_full s prices e d v h known a = rw (h, price_is s prices v known a)
-
-pub price_below : (s prices : List ℕ) (v : ℕ) → IsBytes s → Prices s prices → Among (variables s) v → price_at prices (2 * v + 1) < 2 ^ 32
-price_below s prices v bytes known a = let below = cost_below s bytes v in rw (price_is s prices v known a) (omega (arith, below))
 
 pub full_small : (s e : List ℕ) (v : ℕ) → IsBytes s → IsBytes e → full_of s e v ≤ 2 ^ 48
 full_small s e v bs be =

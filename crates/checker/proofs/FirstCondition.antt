@@ -3,8 +3,7 @@
 -- Assumes nothing.
 use Rattle.std.proofs.Common.{◌≡◌, ℕ, ◌+◌, ◌-◌, ◌%◌, Bool, true, false, not, ◌&&◌, ◌||◌, eqb, leb, ◌⊎◌, List, sym, refl, ◌∙◌, inl, inr, arith, eqb-true, le-leb}
 use borrow.Author.Tests.{lt-leb}
-use Rattle.judgement.specs.declared.Finding.TheVariants.{Fault}
-use Rattle.judgement.specs.Finding.{need, is_fine, ◌then◌}
+use Rattle.judgement.specs.Finding.{fault, need, is_fine, ◌then◌}
 use Rattle.judgement.specs.Scan.{all_of, any_of}
 use Rattle.judgement.specs.Meaning.{variable_of, is_positive, opposite}
 use Rattle.judgement.specs.Literals.{count, code, holds, mentions}
@@ -76,7 +75,7 @@ asked_more {D} {C} {i = i} {c = c} so_far l m c-is w x_is =
 
 -- all are asked: the first test that fails tells the refusal, and where none does, what is left is that a variable is shared
 pub asked_told : {D C : List ℕ} {none_true positive some : Bool} {i : ℕ} (k : ℕ) → Asked D C none_true positive some i → i ≡ count C
-    → LiteralList 1024 D → TellsWhich D C k (need none_true 14 k then need positive 20 k then need some 21 k then Fault 22 k)
+    → LiteralList 1024 D → TellsWhich D C k (need none_true 14 k then need positive 20 k then need some 21 k then fault 22 k)
 unfolding depends_on true_finding negative_finding settled_finding shared_finding none_true unsettled_positive some_unsettled
 asked_told {D} {C} k all end l s b j dependent =
     rw (all.true_told, all.positive_told, all.some_told, end)
@@ -88,7 +87,7 @@ asked_told {D} {C} k all end l s b j dependent =
     (sym (depends_when s b k j D C l) ∙ dependent))
   where
     go : (x y z w : Bool) → is_fine (need x 14 k then need y 20 k then need z 21 k then need w 22 k) ≡ false
-        → (need x 14 k then need y 20 k then need z 21 k then Fault 22 k) ≡ (need x 14 k then need y 20 k then need z 21 k then need w 22 k)
+        → (need x 14 k then need y 20 k then need z 21 k then fault 22 k) ≡ (need x 14 k then need y 20 k then need z 21 k then need w 22 k)
     go true true true true e = absurd (clash refl e)
     go true true true false e = refl
     go true true false w e = refl

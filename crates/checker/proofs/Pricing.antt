@@ -1,22 +1,21 @@
 -- What literals cost, in arrays: how these are filled, and what the prices of a list come to.
 -- Assumes nothing.
-use Rattle.std.proofs.Common.{◌≡◌, ℕ, ◌+◌, ◌-◌, ◌*◌, ◌%◌, ◌^◌, ◌<◌, ◌≤◌, Bool, true, false, cond, eqb, List, length, set, ◌∙◌, arith, length-set, eq-eqb, ne_eqb}
-use native.Mathlib.Decide.{ℕ_discrete}
+use Rattle.std.specs.Prelude.{Ok}
+use Rattle.std.proofs.Common.{◌≡◌, ℕ, ◌+◌, ◌-◌, ◌*◌, ◌^◌, ◌<◌, ◌≤◌, Bool, true, false, cond, List, arith, eq-eqb, ne_eqb, refl, ◌∙◌, w64, Fits}
+use Rattle.judgement.specs.Scan.{sum_of}
 use Rattle.judgement.specs.Meaning.{variable_of, is_positive, with_loss}
 use Rattle.judgement.specs.Literals.{count, code, variable}
 use Rattle.judgement.specs.Sheet.{variables, cost_of, problem_of}
-use Rattle.judgement.specs.declared.Finding.TheVariants.{Fine, Fault}
+use Rattle.judgement.specs.Finding.{Finding, fault}
 use Rattle.judgement.specs.Step.{bound, literals}
 use Rattle.judgement.specs.Kinds.{negative_cost, falsified_cost, cost_bound}
-use Rattle.judgement.specs.Facts.{Among, LiteralList}
+use Rattle.judgement.specs.Facts.{Among, LiteralList, ValidSheet}
 use Rattle.judgement.specs.Demands.{IsBytes}
 use Rattle.judgement.proofs.Laws.Scan.{sum_same}
 use Rattle.judgement.proofs.Laws.Cost.{cost_below}
 use Rattle.checker.specs.Prices.{price_at, Prices, price_sum, Cheap}
-use Rattle.checker.specs.Known.{Formed}
-use Rattle.checker.proofs.Marking.{set_mark}
-use Rattle.checker.proofs.Cited.{false_cost}
-use Rattle.checker.proofs.Known.{own_layout, own_list}
+use Rattle.layout.proofs.Loops.{sum_more}
+use Rattle.checker.proofs.Cited.{false_cost, rising_few}
 
 -- ---- a list of the sheet's literals
 
@@ -40,31 +39,52 @@ cheap s prices part bytes p l i w =
     let v = variable part i in
     rw (price_is s prices part p l i w) (below (is_positive (code part i)) (cost_of s v) (cost_below s bytes v))
 
-pub price_next : (prices part : List ℕ) (i : ℕ) {c : ℕ} → Cheap prices part → i < count part → c ≡ code part (i + 1)
-    → price_at prices c < 2 ^ 32
-price_next prices part i h less e = rw e (h (i + 1) (omega arith, omega arith))
+-- sum is what the first i literals cost, each of them less than 2 ^ 32
+pub record Summed (prices part : List ℕ) (sum i : ℕ) : Type 0 where
+  pub sum_is : sum ≡ sum_of (λ h. price_at prices (code part h)) i
+  pub small : sum ≤ 2 ^ 32 * i
 
--- ---- the literals of a step with body b: `part` are these, x its bound, p what they cost, and y that with the loss
+pub summed_none : (prices part : List ℕ) → Summed prices part 0 0
+unfolding sum_of
+summed_none prices part = record { sum_is = refl; small = omega arith }
 
-module _ (s prices b : List ℕ) (k : ℕ) (formed : Formed s b k) (known : Prices s prices) {part : List ℕ} (part_is : part ≡ literals b)
-  where
-    pub own_cheap : IsBytes s → Cheap prices part
-    own_cheap bytes = rw part_is (cheap s prices (literals b) bytes known (own_layout s b k formed).list)
+-- c, the code of literal i + 1, is next
+module _ {s prices part : List ℕ} {sum i : ℕ} (bytes : IsBytes s) (valid : ValidSheet s) (known : Prices s prices)
+    (list : LiteralList (variables s) part) (so_far : Summed prices part sum i) where
+  few : count part ≤ 1024
+  few = omega (arith, rising_few _ _ _ list.variables, valid.n.1)
 
-    pub own_priced : LiteralList 1024 part
-    own_priced = rw part_is (own_list s b k formed)
+  module _ {c : ℕ} (less : i < count part) (e : c ≡ code part (i + 1)) where
+    low : price_at prices c < 2 ^ 32
+    low = rw e (cheap s prices part bytes known list (i + 1) (omega arith, omega arith))
 
-    module _ {x p y : ℕ} (x_is : x ≡ bound b) (p-is : p ≡ price_sum prices part) (y-is : y ≡ with_loss (problem_of s) p) where
-      price : p ≡ negative_cost s (literals b)
-      price = (rw part_is at p-is) ∙ price_sum_lem s prices (literals b) known (own_layout s b k formed).list
+    pub summed_fits : Fits w64 (sum + price_at prices c)
+    summed_fits = record { fits = omega (arith, so_far.small, low, few) }
 
-      pub cost_other : (x ≡ y → ⊥) → Fault 13 k ≡ cost_bound s b k
-      unfolding falsified_cost cost_bound
-      cost_other h = rw (← x_is, ← price, ← y-is, ne_eqb x y h)
+    pub summed_more : Summed prices part (sum + price_at prices c) (i + 1)
+    summed_more =
+        record {
+          sum_is = sum_more (λ h. price_at prices (code part h)) i so_far.sum_is (rw e);
+          small = omega (arith, so_far.small, low);
+        }
 
-      pub cost_same : x ≡ y → Fine ≡ cost_bound s b k
-      unfolding falsified_cost cost_bound
-      cost_same h = rw (← x_is, ← price, ← y-is, eq-eqb x y h)
+  pub summed_all : i ≡ count part → (sum ≡ negative_cost s part) × (sum ≤ 2 ^ 42)
+  summed_all end = (rw end at so_far.sum_is ∙ price_sum_lem s prices part known list, omega (arith, so_far.small, few, end))
+
+-- ---- the step k with body b: `part` is its list, x its bound, p what the list costs, and y that with the loss
+
+module _ (s b : List ℕ) (k : ℕ) {part : List ℕ} {x p y : ℕ} (part_is : part ≡ literals b) (x_is : x ≡ bound b)
+    (p-is : p ≡ negative_cost s part) (y-is : y ≡ with_loss (problem_of s) p) where
+  price : p ≡ negative_cost s (literals b)
+  price = rw part_is at p-is
+
+  pub cost_other : (x ≡ y → ⊥) → fault 13 k ≡ cost_bound s b k
+  unfolding falsified_cost cost_bound
+  cost_other h = rw (← x_is, ← price, ← y-is, ne_eqb x y h)
+
+  pub cost_same : x ≡ y → Path Finding (Ok tt) (cost_bound s b k)
+  unfolding falsified_cost cost_bound
+  cost_same h = rw (← x_is, ← price, ← y-is, eq-eqb x y h)
 
 -- ---- the arrays, filled for one variable after the other: a positive literal gets p of its variable, a negative one q of it
 
@@ -74,26 +94,3 @@ valued p q c = cond (is_positive c) (p (variable_of c)) (q (variable_of c))
 -- it is done for v variables
 abbrev pub Filled : (ℕ → ℕ) → (ℕ → ℕ) → ℕ → List ℕ → Type 0
 Filled p q v table = (c : ℕ) → Among v (variable_of c) → price_at table c ≡ valued p q c
-
--- the literals of variable v + 1 have the codes 2 v + 2 and 2 v + 3
-pub filled_more : (p q : ℕ → ℕ) (v : ℕ) (table : List ℕ) {x y : ℕ} → 2 * v + 3 < length table → x ≡ p (v + 1) → y ≡ q (v + 1)
-    → Filled p q v table → Filled p q (v + 1) (set (set table (2 * v + 2) x) (2 * v + 3) y)
-filled_more p q v table {x} {y} h ex ey so_far c w =
-    rw (
-      set_mark (set table (2 * v + 2) x) (2 * v + 3) y (simp length-set h) c,
-      set_mark table (2 * v + 2) x (omega arith) c,
-    )
-    (go (ℕ_discrete (2 * v + 3) c) (ℕ_discrete (2 * v + 2) c))
-  where
-    go : Dec (2 * v + 3 ≡ c) → Dec (2 * v + 2 ≡ c)
-        → cond (eqb (2 * v + 3) c) y (cond (eqb (2 * v + 2) c) x (price_at table c)) ≡ valued p q c
-    go (yes e) d =
-        let odd : c % 2 ≡ 0 → ⊥ = λ z. omega (arith, e, z) in
-        let own : variable_of c ≡ v + 1 = omega (arith, e) in
-        rw (eq-eqb (2 * v + 3) c e, ne_eqb (c % 2) 0 odd, own) ey
-    go (no n) (yes e) =
-        let even : c % 2 ≡ 0 = omega (arith, e) in
-        let own : variable_of c ≡ v + 1 = omega (arith, e) in
-        rw (ne_eqb (2 * v + 3) c n, eq-eqb (2 * v + 2) c e, eq-eqb (c % 2) 0 even, own) ex
-    go (no n) (no m) =
-        rw (ne_eqb (2 * v + 3) c n, ne_eqb (2 * v + 2) c m) (so_far c (w.0, omega (arith, w.1, n, m)))

@@ -1,16 +1,16 @@
 -- The total before all entries, and after each.
 -- Assumes nothing.
-use Rattle.std.proofs.Common.{◌≡◌, ℕ, zero, suc, ◌+◌, ◌*◌, ◌^◌, ◌<◌, ◌≤◌, Bool, true, false, cond, not, eqb, List, length, ℤ, pos, ◌+ℤ◌, sym, refl, ap, ◌∙◌, mul-le-mul, mul-zero, arith, eq-eqb, ne_eqb}
+use Rattle.std.specs.Prelude.{Ok}
+use Rattle.std.proofs.Common.{◌≡◌, ℕ, zero, suc, ◌+◌, ◌*◌, ◌^◌, ◌<◌, ◌≤◌, Bool, true, false, cond, not, eqb, List, ℤ, pos, sym, refl, ap, ◌∙◌, mul-le-mul, mul-zero, arith, eq-eqb, ne_eqb}
 use mathlib.Core.Bool.{and-false}
 use lib.IntN.{+ℤ_idl}
-use borrow.Author.Tests.{eqb-false, not-true, not-false}
+use borrow.Author.Tests.{eqb-false, not-true}
 use Rattle.judgement.specs.Scan.{all_of, sum_of}
-use Rattle.judgement.specs.declared.Finding.TheVariants.{Fine, Fault}
-use Rattle.judgement.specs.Finding.{◌then◌}
+use Rattle.judgement.specs.Finding.{Finding, fault, ◌then◌}
 use Rattle.judgement.specs.Number.{number_at}
 use Rattle.judgement.specs.Meaning.{negative, with_loss}
 use Rattle.judgement.specs.Literals.{count, holds, mentions}
-use Rattle.judgement.specs.Sheet.{variables, cost_of, clause_pairs_at, problem_of}
+use Rattle.judgement.specs.Sheet.{variables, cost_of, problem_of}
 use Rattle.judgement.specs.Kinds.{negative_cost}
 use Rattle.judgement.specs.Step.{bound, literals, tail, divisor, entry_count, weight}
 use Rattle.judgement.specs.Integers.{sum_of_ℤ, rounded_up}
@@ -18,8 +18,7 @@ use Rattle.judgement.specs.Linear.{weight_of, remainder, entry_sum, addend, adde
 use Rattle.judgement.specs.Facts.{LiteralList}
 use Rattle.judgement.proofs.Laws.Scan.{and_l, sum_times}
 use Rattle.judgement.proofs.Laws.ByVariable.{negatives_by_variable}
-use Rattle.checker.specs.Weighing.{Settling, Weighing, full_of, Entered, Weighable}
-use Rattle.checker.specs.Prices.{Prices}
+use Rattle.checker.specs.Weighing.{Settling, Weighing, full_of, Weighable}
 use Rattle.layout.proofs.Loops.{all_more, all_stop}
 use Rattle.checker.proofs.Meeting.{weighing_settled}
 use Rattle.checker.proofs.Entries.{weight_next}
@@ -65,32 +64,8 @@ total_start s D e list =
 
 -- ---- the next entry
 
-pub entered : (s prices D e : List ℕ) (pairs d j : ℕ) → Weighable s D e → Prices s prices → pairs ≡ clause_pairs_at s → d ≡ divisor e
-    → j < entry_count e → Entered s prices e pairs d j
-entered s prices D e pairs d j w known p q l =
-    record {
-      pairs_at = p;
-      divides = q;
-      priced = known;
-      n = w.n;
-      room = let h = w.whole in omega (arith, h, l);
-      few = let h = w.few in omega (arith, h, l);
-      within = w.within (j + 1) (omega arith, omega arith);
-      list = w.lists (j + 1) (omega arith, omega arith);
-    }
-
 pub paid_small : (d x : ℕ) → d < 2 ^ 16 → x ≤ 2 ^ 42 → d * x ≤ 2 ^ 58
 paid_small d x a b = mul-le-mul {n₁ = d} {m₁ = x} {n₂ = 2 ^ 16} {m₂ = 2 ^ 42} (omega arith) b
-
--- the total is what it was, as it is read back, and what the entry adds
-pub total_next : (s D e : List ℕ) (j : ℕ) (sum r new : ℤ) → sum ≡ total_of s D e j → new ≡ sum +ℤ r → total_of s D e j +ℤ r ≡ total_of s D e (j + 1)
-    → new ≡ total_of s D e (j + 1)
-total_next s D e j sum r new h k t = rw (k, h) t
-
--- the bound, of a total that is read back
-pub bound_of : (s D e : List ℕ) (sum : ℤ) (j d : ℕ) {r : ℕ} → r ≡ rounded_up sum d → sum ≡ total_of s D e j → j ≡ entry_count e → d ≡ divisor e
-    → r ≡ rounded_up (total_of s D e (entry_count e)) (divisor e)
-bound_of s D e sum j d h k l m = rw (h, k, l, m)
 
 -- the first total, as it is computed
 pub first_total : (s D e : List ℕ) (d x : ℕ) {sum : ℤ} → LiteralList (variables s) D → d ≡ divisor e → x ≡ negative_cost s D → sum ≡ pos (d * x)
@@ -119,42 +94,40 @@ weights_more e j {x} h z p =
     let k : is_weight e (j + 1) ≡ true = rw (← weight_next e j h, ne_eqb x 0 z) in
     all_more (is_weight e) j p k
 
-pub weights_all : (e : List ℕ) {x : ℕ} → x ≡ divisor e → (x ≡ 0 → ⊥) → all_of (is_weight e) (entry_count e) ≡ true → true ≡ is_weighted e
+pub weights_all : (e : List ℕ) {x j : ℕ} → x ≡ divisor e → (x ≡ 0 → ⊥) → j ≡ entry_count e → all_of (is_weight e) j ≡ true
+    → true ≡ is_weighted e
 unfolding is_weighted
-weights_all e {x} h z p = rw (← h, ne_eqb x 0 z, p)
+weights_all e {x} h z end p = rw (← h, ne_eqb x 0 z, ← end, p)
 
 -- ---- refusals 23 and 24
 
-pub weights_fault : (s b : List ℕ) (k : ℕ) {e : List ℕ} {r : Bool} → e ≡ tail b → r ≡ is_weighted e → not r ≡ true
-    → Fault 23 k ≡ (weights_finding b k then linear_bound s b k)
+pub weights_fault : (s b : List ℕ) (k : ℕ) {e : List ℕ} {r : Bool} → e ≡ tail b → r ≡ is_weighted e → r ≡ false
+    → fault 23 k ≡ (weights_finding b k then linear_bound s b k)
 unfolding weights_finding
-weights_fault s b k {r = r} p q h = rw (← p, ← q, not-true r h)
+weights_fault s b k {r = r} p q h = rw (← p, ← q, h)
 
 module _ (s b : List ℕ) (k : ℕ) {e D : List ℕ} {r : Bool} {x y : ℕ} (p : e ≡ tail b) (l : D ≡ literals b) (q : r ≡ is_weighted e)
-    (h : not r ≡ false) (x_is : x ≡ bound b) (y-is : y ≡ with_loss (problem_of s) (rounded_up (total_of s D e (entry_count e)) (divisor e))) where
+    (h : r ≡ true) (x_is : x ≡ bound b) (y-is : y ≡ with_loss (problem_of s) (rounded_up (total_of s D e (entry_count e)) (divisor e))) where
   cost_is : y ≡ linear_cost s b
   unfolding linear_cost total
   cost_is = rw (y-is, p, l)
 
-  pub bound_fault : (x ≡ y → ⊥) → Fault 24 k ≡ (weights_finding b k then linear_bound s b k)
+  pub bound_fault : (x ≡ y → ⊥) → fault 24 k ≡ (weights_finding b k then linear_bound s b k)
   unfolding weights_finding linear_bound
-  bound_fault n = rw (← p, ← q, not-false r h, ← x_is, ← cost_is, ne_eqb x y n)
+  bound_fault n = rw (← p, ← q, h, ← x_is, ← cost_is, ne_eqb x y n)
 
-  pub bound_fine : x ≡ y → Fine ≡ (weights_finding b k then linear_bound s b k)
+  pub bound_fine : x ≡ y → Path Finding (Ok tt) (weights_finding b k then linear_bound s b k)
   unfolding weights_finding linear_bound
-  bound_fine e = rw (← p, ← q, not-false r h, ← x_is, ← cost_is, eq-eqb x y e)
+  bound_fine e = rw (← p, ← q, h, ← x_is, ← cost_is, eq-eqb x y e)
 
 -- ---- what the tests before the entries leave
 
-pub divisor_some : (e : List ℕ) {r : Bool} → r ≡ is_weighted e → not r ≡ false → 1 ≤ divisor e
+pub divisor_some : (e : List ℕ) {r : Bool} → r ≡ is_weighted e → r ≡ true → 1 ≤ divisor e
 unfolding is_weighted
-divisor_some e {r} q h = go (eqb-false (divisor e) 0 (not-true (eqb (divisor e) 0) (and_l (not (eqb (divisor e) 0)) (all_of (is_weight e) (entry_count e)) (sym q ∙ not-false r h))))
+divisor_some e {r} q h = go (eqb-false (divisor e) 0 (not-true (eqb (divisor e) 0) (and_l (not (eqb (divisor e) 0)) (all_of (is_weight e) (entry_count e)) (sym q ∙ h))))
   where
     go : (divisor e ≡ 0 → ⊥) → 1 ≤ divisor e
     go n = omega (arith, n)
 
 pub weighable_as : (s D e : List ℕ) {D' e' : List ℕ} → D' ≡ D → e' ≡ e → Weighable s D e → Weighable s D' e'
 weighable_as s D e p q w = rw (p, q) w
-
-pub whole_as : (e : List ℕ) {e' : List ℕ} → e' ≡ e → length e ≡ 2 + 6 * entry_count e → length e' ≡ 2 + 6 * entry_count e'
-whole_as e p h = rw p h

@@ -1,16 +1,10 @@
 -- Kind 1: what is looked at first.
 -- Assumes nothing.
-use Rattle.std.specs.Prelude.{ℕ, ◌+◌, Bool, ◌&&◌, List, nat_eq}
-use Rattle.judgement.specs.Scan.{all_of}
+use Rattle.std.specs.Prelude.{ℕ, Bool, ◌&&◌, List}
 use Rattle.judgement.specs.Finding.{is_fine}
-use Rattle.judgement.specs.Literals.{code}
 use Rattle.judgement.specs.declared.Kind.TheVariants.{Copy}
 use Rattle.judgement.specs.Step.{form_fine, cites_fine}
 use Rattle.judgement.specs.Kinds.{copy_finding}
-
--- literals from + 1 to from + n of both lists are the same
-unfoldable pub same_from : List ℕ → List ℕ → ℕ → ℕ → Bool
-same_from part other from n = all_of (λ i. nat_eq (code part (from + i)) (code other (from + i))) n
 
 -- refusal 12 does not apply: the literals are those of the clause that b cites, and the bound is "none"
 unfoldable pub is_copied : List ℕ → List ℕ → Bool

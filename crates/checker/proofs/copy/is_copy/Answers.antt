@@ -1,10 +1,15 @@
 -- `checker::copy::is_copy` meets its contract. A test that fails is one of a step that passes, and after the last one there is only
 -- left whether the clause is copied.
 -- Assumes nothing.
-use Rattle.std.proofs.Common.{sym, ◌∙◌, arith}
-use borrow.Author.Tests.{not-true, not-false}
+use Rattle.std.proofs.Common.{◌≡◌, length, take_all, sym, ◌∙◌, arith}
 use Rattle.judgement.proofs.Laws.Scan.{clash, false_i}
-use Rattle.checker.proofs.Copying.{passing_size, passing_byte, passing_cited, whole_tail, cited_within, copies_is}
+use Rattle.judgement.specs.Meaning.{none}
+use Rattle.judgement.specs.Sheet.{clauses, clause_pairs_at}
+use Rattle.judgement.specs.Step.{literals, cited_clause}
+use Rattle.judgement.specs.Demands.{IsBytes}
+use Rattle.checker.proofs.Body.{pair_within}
+use Rattle.checker.proofs.Copying.{copied_bytes, passing_length, passing_size, passing_byte, passing_cited, whole_tail, cited_among, copies_is}
+use Rattle.layout.proofs.Number.{number_byte}
 use Rattle.checker.proofs.copy.is_copy.Goals as goal
 
 pub returns-then-b-lt12 : goal.returns-then-b-lt12
@@ -17,39 +22,57 @@ returns-then-b-u16_at c =
     let a = c.args in
     sym (false_i _ (λ p. c.if-b-u16_at.true (rw c.u16_at.ensures.0 (passing_size a.s.now a.b.now p))))
 
-pub returns-then-byte_at-ne0 : goal.returns-then-byte_at-ne0
-returns-then-byte_at-ne0 c =
+pub returns-then-b-ne0 : goal.returns-then-b-ne0
+returns-then-b-ne0 c =
     let a = c.args in
-    sym (false_i _ (λ p. c.if-byte_at-ne0.true (c.byte_at.ensures.0 ∙ passing_byte a.s.now a.b.now p)))
+    sym (false_i _ (λ p. c.if-b-ne0.true (sym (number_byte a.b.now 1) ∙ passing_byte a.s.now a.b.now p)))
 
-pub whole_cited-requires : goal.whole_cited-requires
-whole_cited-requires c =
+pub cited-number-requires : goal.cited-number-requires
+cited-number-requires c =
     let b = c.args.b.now in
     let size = rw c.u16_at.ensures.0 at c.if-b-u16_at.false in
-    (omega (arith, size), omega arith, omega (arith, whole_tail b size))
+    (omega arith, omega (arith, whole_tail b size))
 
 pub returns-then-not-is_clause : goal.returns-then-not-is_clause
 returns-then-not-is_clause c =
     let a = c.args in
     let r = c.is_clause.ensures in
-    let e = c.whole_cited.ensures in
-    sym (false_i _ (λ p. clash (r ∙ rw e (passing_cited a.s.now a.b.now p)) (not-true _ c.if-not-is_clause.true-raw)))
+    let e = c.cited-number.ensures in
+    sym (false_i _ (λ p. clash (r ∙ rw e (passing_cited a.s.now a.b.now p)) c.if-not-is_clause.true))
 
-pub is_copied-requires : goal.is_copied-requires
-is_copied-requires c =
+pub body_at-clause-requires : goal.body_at-clause-requires
+body_at-clause-requires c =
+    let s = c.args.s.now in
+    let b = c.args.b.now in
+    let valid = c.requires in
+    let cites = rw c.cited-number.ensures at (sym c.is_clause.ensures ∙ c.if-not-is_clause.false) in
+    rw (c.cited-number.ensures, c.clause_pairs_at.ensures.0)
+    (pair_within s (clause_pairs_at s) (clauses s) valid.room valid.pairs _ (cited_among s b valid cites))
+
+pub returns-then-clause-literals : goal.returns-then-clause-literals
+returns-then-clause-literals c =
     let s = c.args.s.now in
     let b = c.args.b.now in
     let size = rw c.u16_at.ensures.0 at c.if-b-u16_at.false in
-    let clause = sym c.is_clause.ensures ∙ not-false _ c.if-not-is_clause.false-raw in
-    let cites = rw c.whole_cited.ensures at clause in
-    (omega (arith, size), omega (arith, whole_tail b size), cited_within s b c.requires cites)
+    let cites = rw c.cited-number.ensures at (sym c.is_clause.ensures ∙ c.if-not-is_clause.false) in
+    let clause : c.body_at-clause.result.now ≡ cited_clause s b 1 = rw (← c.cited-number.ensures, ← c.clause_pairs_at.ensures.0) c.body_at-clause.ensures in
+    let list = c.requires.lists _ (cited_among s b c.requires cites) in
+    let differ = rw (clause, c.literals-literals.ensures) at c.if-clause-literals.true in
+    sym (false_i _ (λ p. differ (passing_length s b (omega (arith, size)) list p)))
 
 pub returns : goal.returns
+unfolding none
 returns c =
     let s = c.args.s.now in
     let b = c.args.b.now in
+    let bytes : IsBytes s = λ i. (c.type_inv.s i).fits in
+    let others : IsBytes b = λ i. (c.type_inv.b i).fits in
     let size = rw c.u16_at.ensures.0 at c.if-b-u16_at.false in
-    let clause = sym c.is_clause.ensures ∙ not-false _ c.if-not-is_clause.false-raw in
-    let cites = rw c.whole_cited.ensures at clause in
-    let byte = sym c.byte_at.ensures.0 ∙ c.if-byte_at-ne0.false in
-    c.is_copied.ensures ∙ copies_is s b c.requires cites size byte
+    let cites = rw c.cited-number.ensures at (sym c.is_clause.ensures ∙ c.if-not-is_clause.false) in
+    let clause : c.body_at-clause.result.now ≡ cited_clause s b 1 = rw (← c.cited-number.ensures, ← c.clause_pairs_at.ensures.0) c.body_at-clause.ensures in
+    let list = c.requires.lists _ (cited_among s b c.requires cites) in
+    let long = rw (clause, c.literals-literals.ensures) at c.if-clause-literals.false in
+    let all = take_all (length (literals b)) (cited_clause s b 1) (omega (arith, long)) in
+    let starts = rw (c.literals-literals.ensures, clause, all) at c.starts_with.ensures.value in
+    let same = copied_bytes s b bytes others (omega (arith, size)) list starts in
+    rw c.bound.ensures (same ∙ copies_is s b c.requires cites size (number_byte b 1 ∙ c.if-b-ne0.false))

@@ -1,25 +1,11 @@
 -- `checker::independent::independent_finding` meets its contract: the form, and what is left.
 -- Assumes nothing.
-use Rattle.std.proofs.Common.{sym, ◌∙◌, arith}
-use Rattle.checker.proofs.Known.{formed_by, form_stop, form_more, own_room, citable_step}
-use Rattle.checker.proofs.Marking.{stale_later}
+use Rattle.checker.proofs.Known.{formed_by, own_room, citable_step}
 use Rattle.checker.proofs.independent.independent_finding.Goals as goal
 
-pub form_finding-form-requires : goal.form_finding-form-requires
-form_finding-form-requires c = sym c.requires.1
-
-pub returns-then-not-is_fine : goal.returns-then-not-is_fine
-returns-then-not-is_fine c =
-    let h = c.requires in
-    record { stale = (λ fine. stale_later (omega arith) h.3); finding = (form_stop _ _ _ c.form_finding-form.ensures c.is_fine.ensures _ c.if-not-is_fine.true-raw) }
+pub invariant_of-set_finding : goal.invariant_of-set_finding
+invariant_of-set_finding c = record { room = own_room _ _ _ (formed_by _ _ _ c.in_ok-form_finding.ensures c.args.priced.now.valid) }
 
 pub set_finding-requires : goal.set_finding-requires
 set_finding-requires c =
-    let h = c.requires in
-    let formed = formed_by _ _ _ c.form_finding-form.ensures c.is_fine.ensures h.0 c.if-not-is_fine.false-raw in
-    (citable_step _ _ _ formed h.1, own_room _ _ _ formed, h.2, h.3)
-
-pub returns : goal.returns
-returns c =
-    let more = form_more _ _ _ c.form_finding-form.ensures c.is_fine.ensures _ c.if-not-is_fine.false-raw in
-    record { stale = (c.set_finding.ensures.stale); finding = (c.set_finding.ensures.finding ∙ more) }
+    (citable_step _ _ _ (formed_by _ _ _ c.in_ok-form_finding.ensures c.args.priced.now.valid) c.requires.0, c.requires.1)

@@ -1,42 +1,40 @@
 use Rattle.std.proofs.Common.{◌≡◌, refl, arith, length-set}
-use Rattle.judgement.specs.Scan.{any_of, sum_of}
-use Rattle.judgement.specs.Literals.{count, code}
-use Rattle.layout.proofs.Loops.{sum_more}
-use Rattle.checker.specs.Prices.{price_at}
-use Rattle.checker.proofs.Cited.{rising_few}
-use Rattle.checker.proofs.Pricing.{price_next}
+use Rattle.judgement.specs.Scan.{any_of}
+use Rattle.judgement.specs.Literals.{count}
+use Rattle.checker.proofs.Cited.{list_within}
+use Rattle.checker.proofs.Pricing.{summed_none, summed_fits, summed_more, summed_all}
 use Rattle.checker.proofs.Conditions.{settled_more, marks_start}
 use Rattle.checker.proofs.independent.mark_settled.Goals as goal
 
 pub loop-i-init : goal.loop-i-init
-unfolding any_of sum_of
-loop-i-init c = (omega arith, c.requires.0.size, λ d. refl, refl, omega arith)
-
-pub code_in_form-c-requires : goal.code_in_form-c-requires
-code_in_form-c-requires c = (omega arith, c.requires.2)
+unfolding any_of
+loop-i-init c = (c.requires.0.size, λ d. refl, summed_none _ _)
 
 pub overflow_add-sum : goal.overflow_add-sum
 overflow_add-sum c =
-    let few = rising_few _ 1024 _ c.requires.2.variables in
-    let low = price_next c.args.prices.now c.args.part.now c.loop-i.i c.requires.3 (omega arith) c.code_in_form-c.ensures.0 in
-    omega (arith, few, low)
+    let p = c.args.priced.now in
+    summed_fits p.bytes p.valid p.priced.falsified c.requires.1 c.loop-i.invariant.2 (omega arith) c.code_in_form-c.ensures.0
 
 pub loop-i-preserved : goal.loop-i-preserved
 loop-i-preserved c =
+    let p = c.args.priced.now in
     let l = c.loop-i in
-    let part = c.args.part.now in
     let e = c.code_in_form-c.ensures in
-    let low = price_next c.args.prices.now part l.i c.requires.3 (omega arith) e.0 in (
-      omega arith,
-      simp length-set l.invariant.1,
-      settled_more part l.i c.requires.2 (omega arith) e.0 c.args.t c.args.marks.now l.marks l.invariant.1 e.1 l.invariant.2,
-      sum_more (λ h. price_at c.args.prices.now (code part h)) l.i l.invariant.3 (rw e.0),
-      omega (arith, low),
+    let list = list_within _ 1024 p.valid.n.1 c.requires.1 in (
+      simp length-set l.invariant.0,
+      settled_more c.args.part.now l.i list (omega arith) e.0 c.args.t c.args.marks.now l.marks l.invariant.0 e.1 l.invariant.1,
+      summed_more p.bytes p.valid p.priced.falsified c.requires.1 l.invariant.2 (omega arith) e.0,
     )
 
 pub returns : goal.returns
 returns c =
+    let p = c.args.priced.now in
     let l = c.loop-i in
     let part = c.args.part.now in
     let end : l.i ≡ count part = omega arith in
-    let few = rising_few _ 1024 _ c.requires.2.variables in record { marked = (marks_start part c.args.t c.args.marks.now l.marks c.requires.2 c.requires.0 l.invariant.1 (rw end at l.invariant.2)); cost = ((rw end at l.invariant.3, omega (arith, few))) }
+    let list = list_within _ 1024 p.valid.n.1 c.requires.1 in
+    let all = summed_all p.bytes p.valid p.priced.falsified c.requires.1 l.invariant.2 end in
+    record {
+      marked = marks_start part c.args.t c.args.marks.now l.marks list c.requires.0 l.invariant.0 (rw end at l.invariant.1);
+      cost = (all.0, omega (arith, all.1));
+    }
