@@ -7,11 +7,11 @@ use mathlib.Core.Logic.{◌↔◌, inl, inr}
 use native.Mathlib.Omega.{arith}
 use borrow.Author.Tests.{le-leb}
 use lib.ListN.{length, get_or, drop, length-append, length-take, length-map, get_or-map}
+use Rattle.std.specs.Prelude.{Ok}
 use Rattle.judgement.specs.Scan.{sum_of, list_of}
 use Rattle.judgement.specs.Meaning.{Problem, Assignment, Model, Least, Breaks}
 use Rattle.judgement.specs.Pairs.{pair_offset, pair_length, body}
 use Rattle.judgement.specs.Literals.{count, code, codes_in}
-use Rattle.judgement.specs.declared.Finding.TheVariants.{Fine}
 use Rattle.judgement.specs.Sheet.{variables, clauses, loss_at, clause_pairs_at, cost_of, loss, clause, problem_of, alone_finding}
 use Rattle.judgement.specs.Writer.{numbers_of, joined, loss_of, sheet_of}
 use Rattle.judgement.specs.Facts.{Among, OneOf, SameMembers, LiteralList, ValidSheet, Alike}
@@ -31,8 +31,8 @@ use Rattle.judgement.proofs.Laws.Table.{lengths_fill}
 use Rattle.judgement.proofs.Facts.Layouts.{valid_alone}
 use Rattle.judgement.proofs.Complete.Bytes.{length_bytes, length_numbers, nil_bytes, append_bytes, numbers_are_bytes}
 use Rattle.judgement.proofs.Complete.Stored.{codes_back, in_codes, in_member, ascending_fits, ascending_list}
-use Rattle.writer.specs.declared.Comparison.{Comparison}
-use Rattle.writer.specs.declared.Comparison.TheVariants.{Before, Same, After}
+use Rattle.std.specs.declared.cmp.Ordering.{Ordering}
+use Rattle.std.specs.declared.cmp.Ordering.TheVariants.{Less, Equal, Greater}
 use Rattle.writer.specs.Order.{Precedes, Rises, clause_codes}
 use Rattle.writer.specs.Sorted.{compare, by_case, insert, sorted}
 use Rattle.writer.specs.Canonical.{ordered, canonical, write_finding, shortage, writing, leaves}
@@ -40,7 +40,8 @@ use Rattle.writer.specs.Promises.{ClausesWithin, SameProblem, NoIdleMark, OneWay
 use Rattle.writer.proofs.Order.{sorted_rises, sorted_has, sorted_from, in_order, in_order_same}
 use Rattle.writer.proofs.Only.{in_place}
 use Rattle.writer.proofs.SheetBack.{loss_or, size_of, length_sheet, back_variables, back_mark, back_clauses, back_cost, back_loss, back_clause, back_valid, sheet_bytes}
-use Rattle.writer.proofs.Raw.{lossy_marked}
+use Rattle.writer.specs.Words.{codes_of, body_of, EachWord, head_end}
+use Rattle.writer.proofs.Raw.{lossy_marked, counted_size}
 
 -- stored lists with the same literals have the same codes
 codes_same : (n : ℕ) (part other : List ℕ) → LiteralList n part → LiteralList n other → SameMembers part other
@@ -60,11 +61,11 @@ unfolding insert joined
 insert_size b [] = rw length-append (omega arith)
 insert_size b (c ∷ l) = go (compare b c) (insert_size b l)
   where
-    go : (o : Comparison) → bytes_in (insert b l) ≤ length (numbers_of 2 b) + bytes_in l
+    go : (o : Ordering) → bytes_in (insert b l) ≤ length (numbers_of 2 b) + bytes_in l
         → bytes_in (by_case o (b ∷ c ∷ l) (c ∷ l) (c ∷ insert b l)) ≤ length (numbers_of 2 b) + bytes_in (c ∷ l)
-    go Before r = rw (length-append, length-append) (omega arith)
-    go Same r = omega arith
-    go After r = rw (length-append, length-append) (omega arith)
+    go Less r = rw (length-append, length-append) (omega arith)
+    go Equal r = omega arith
+    go Greater r = rw (length-append, length-append) (omega arith)
 
 sorted_size : (f : ℕ → List ℕ) (m : ℕ) → bytes_in (sorted f m) ≤ sum_of (λ k. length (numbers_of 2 (f k))) m
 unfolding sorted sum_of joined
@@ -79,11 +80,11 @@ unfolding insert
 insert_length b [] = omega arith
 insert_length b (c ∷ l) = go (compare b c) (insert_length b l)
   where
-    go : (o : Comparison) → length (insert b l) ≤ suc (length l)
+    go : (o : Ordering) → length (insert b l) ≤ suc (length l)
         → length (by_case o (b ∷ c ∷ l) (c ∷ l) (c ∷ insert b l)) ≤ suc (suc (length l))
-    go Before r = omega arith
-    go Same r = omega arith
-    go After r = omega arith
+    go Less r = omega arith
+    go Equal r = omega arith
+    go Greater r = omega arith
 
 sorted_length : (f : ℕ → List ℕ) (m : ℕ) → length (sorted f m) ≤ m
 unfolding sorted
@@ -375,7 +376,7 @@ same_breaks s t h α (k, l, u, b) =
 -- ---- writing it again
 
 module _ (s : List ℕ) (valid : ValidSheet s) (bytes : IsBytes s) where
-  fine_again : (room : ℕ) → length (canonical s) ≤ room → write_finding (canonical s) room ≡ Fine
+  fine_again : (room : ℕ) → length (canonical s) ≤ room → write_finding (canonical s) room ≡ Ok tt
   unfolding write_finding shortage
   fine_again room h =
       rw (fine_is (alone_finding (canonical s)) (valid_alone (canonical s) (canonical_valid s valid)), canonical_again s valid bytes, le-leb (length (canonical s)) room h)
@@ -423,3 +424,8 @@ one_way s p b =
       stays = stays s p b;
       exactly = λ t q c. canonical_exactly s t p q b c;
     }
+
+-- the size that the code counts is within that of s
+pub counted_room : (s order : List ℕ) → ValidSheet s → IsBytes s → EachWord s order → map (codes_of s) order ≡ ordered s
+    → length (joined (map (body_of s) order)) + 8 * length order + head_end s ≤ length s
+counted_room s order valid bytes inside sorted = omega (arith, counted_size s order valid bytes inside sorted, canonical_length s valid)

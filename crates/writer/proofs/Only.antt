@@ -24,7 +24,7 @@ use Rattle.writer.specs.Promises.{NoIdleMark}
 use Rattle.writer.specs.Words.{word_of, number_of, codes_of, body_of, Words, SortedRange, head_end, head_bytes}
 use Rattle.writer.proofs.Merging.{words_wider}
 use Rattle.writer.proofs.SheetBack.{Lossless, Lossy, loss_or}
-use Rattle.writer.proofs.Raw.{raw_canonical}
+use Rattle.writer.proofs.Raw.{range_inside, range_sorted, raw_canonical}
 
 -- ---- a file with a table of pairs, from its pairs on
 
@@ -228,6 +228,7 @@ in_place s valid bytes order due =
     let l : length (take (clause_pairs_at s) s) ≡ clause_pairs_at s = length-take (clause_pairs_at s) s ∙ omega arith in
     let b = from_bodies s 0 (clauses s) (omega arith) in
     let p = from_pairs s bytes (clause_pairs_at s) (clauses s) room valid.pairs in
-    raw_canonical s (clause_pairs_at s) (record { valid = valid; pairs = refl }) bytes w (stands s (omega arith) order)
+    let r = stands s (omega arith) order in
+    raw_canonical s (clause_pairs_at s) (record { valid = valid; pairs = refl }) bytes w (range_inside s w r) (range_sorted s w r)
     ∙ rw (from_length s 0 (clauses s), h, b, l, bodies_length s (clause_pairs_at s) 0 (clauses s), append_assoc, ← p)
     (take-append-drop (clause_pairs_at s) s)

@@ -1,16 +1,19 @@
 -- The canonical sheet as the bytes that the writer puts: parts of the sheet, pairs, and bodies as they stand.
 -- Assumes nothing.
-use Prim.Native.Nat.{ℕ, ◌+◌, ◌-◌, ◌*◌, ◌/◌, ◌≤◌}
+use Prim.Native.Nat.{ℕ, suc, ◌+◌, ◌-◌, ◌*◌, ◌≤◌}
 use mathlib.Core.Path.{◌≡◌, refl, sym, ap, ◌∙◌}
 use mathlib.Core.List.{List, [], ◌∷◌, ◌++◌, map, append_assoc, append-nil}
 use mathlib.Core.Logic.{inl, inr}
 use native.Mathlib.Omega.{arith}
 use lib.ListN.{length, take, drop, length-append, length-take, length-drop, length-map}
 use lib.Seq.{take-add, drop-drop}
+use lib.Dec.{eqb}
+use Rattle.std.specs.Prelude.{not}
+use Rattle.std.specs.Int.{from_bool}
 use Rattle.judgement.specs.Scan.{list_of}
 use Rattle.judgement.specs.Number.{number_at}
 use Rattle.judgement.specs.Pairs.{pair_offset, pair_length, body}
-use Rattle.judgement.specs.Sheet.{mark, variables, clauses, loss_at, clause_pairs_at, cost_of, loss, clause}
+use Rattle.judgement.specs.Sheet.{variables, clauses, loss_at, clause_pairs_at, cost_of, loss, clause}
 use Rattle.judgement.specs.Writer.{bytes_of, numbers_of, pairs_of, joined, file_of, mark_of, loss_of, sheet_of}
 use Rattle.judgement.specs.Buffer.{over, put}
 use Rattle.judgement.specs.Facts.{Among, OneOf, ValidSheet}
@@ -24,8 +27,9 @@ use Rattle.judgement.proofs.Laws.Table.{file_written}
 use Rattle.judgement.proofs.Complete.Tables.{length_file}
 use Rattle.writer.specs.Order.{clause_codes}
 use Rattle.writer.specs.Canonical.{ordered, canonical}
-use Rattle.writer.specs.Words.{Known, number_of, codes_of, body_of, Words, SortedRange, head_end, head_bytes}
+use Rattle.writer.specs.Words.{Known, number_of, codes_of, body_of, EachWord, Words, SortedRange, head_end, head_bytes}
 use Rattle.writer.proofs.Order.{one_order}
+use Rattle.writer.proofs.Merging.{words_at}
 use Rattle.writer.proofs.SheetBack.{Lossy, loss_or, loss_length, head_of, length_head}
 
 -- a body is not longer than the file
@@ -44,7 +48,7 @@ unfolding head_end
 end_some s = omega arith
 
 -- and where the code counts
-pub end_is : (s : List ℕ) {m at : ℕ} → m ≡ mark_of (loss s) → at ≡ loss_at s → at + 4 * (m / mark) ≡ head_end s
+pub end_is : (s : List ℕ) {lost at : ℕ} → lost ≡ from_bool (not (eqb (loss s) 0)) → at ≡ loss_at s → at + 4 * lost ≡ head_end s
 unfolding head_end
 end_is s p q = rw (p, q, loss_length (loss s))
 
@@ -103,21 +107,29 @@ lossy_marked s o = elim (mark_or s) [
 
 -- ---- the canonical sheet
 
-module _ (s : List ℕ) (table : ℕ) (known : Known s table) (bytes : IsBytes s) (order : List ℕ) (range : SortedRange s 0 (clauses s) order) where
-  pub raw_words : Words s 0 (clauses s) order
-  raw_words = zero_more s order range.words
+-- a sorted range of all of them is in the one order
+pub range_sorted : (s order : List ℕ) → SortedRange s 0 (clauses s) order → map (codes_of s) order ≡ ordered s
+range_sorted s order range =
+    (one_order s).only (map (codes_of s) order)
+    (record {
+      rises = range.rises;
+      every = λ k w. range.every k w.0 (omega (arith, w.1));
+      no_other = λ b m. words_from s (clauses s) order b (zero_more s order range.words) m;
+    })
 
-  order_is : map (codes_of s) order ≡ ordered s
-  order_is =
-      (one_order s).only (map (codes_of s) order)
-      (record {
-        rises = range.rises;
-        every = λ k w. range.every k w.0 (omega (arith, w.1));
-        no_other = λ b m. words_from s (clauses s) order b raw_words m;
-      })
+pub range_inside : (s order : List ℕ) → SortedRange s 0 (clauses s) order → EachWord s order
+range_inside s order range i h = words_at s order i (zero_more s order range.words) h
 
+words_all : (s l : List ℕ) → EachWord s l → Words s 0 (clauses s) l
+words_all s [] f = tt
+words_all s (w ∷ l) f =
+    let h = f 0 (omega arith) in
+    (h.0.0, h.0.1, h.1, words_all s l (λ i k. f (suc i) (omega arith)))
+
+module _ (s : List ℕ) (table : ℕ) (known : Known s table) (bytes : IsBytes s) (order : List ℕ) (inside : EachWord s order)
+    (order_is : map (codes_of s) order ≡ ordered s) where
   bodies_are : map (numbers_of 2) (ordered s) ≡ map (body_of s) order
-  bodies_are = ap (map (numbers_of 2)) (sym order_is) ∙ clauses_again s bytes known.valid order raw_words
+  bodies_are = ap (map (numbers_of 2)) (sym order_is) ∙ clauses_again s bytes known.valid order (words_all s order inside)
 
   costs : List ℕ
   costs = list_of (cost_of s) (variables s)
@@ -175,7 +187,7 @@ module _ (s : List ℕ) (table : ℕ) (known : Known s table) (bytes : IsBytes s
       ∙ rw raw_canonical
 
 -- the size that the code counts is that of the canonical sheet
-pub counted_size : (s order : List ℕ) → ValidSheet s → IsBytes s → SortedRange s 0 (clauses s) order
+pub counted_size : (s order : List ℕ) → ValidSheet s → IsBytes s → EachWord s order → map (codes_of s) order ≡ ordered s
     → length (joined (map (body_of s) order)) + 8 * length order + head_end s ≡ length (canonical s)
-counted_size s order valid bytes range =
-    omega (arith, raw_size s (clause_pairs_at s) (record { valid = valid; pairs = refl }) bytes order range)
+counted_size s order valid bytes inside sorted =
+    omega (arith, raw_size s (clause_pairs_at s) (record { valid = valid; pairs = refl }) bytes order inside sorted)

@@ -1,6 +1,6 @@
 -- A written sheet reads back: n, m, costs, loss and clauses, and it is valid where its lists are.
 -- Assumes nothing.
-use Prim.Native.Nat.{ℕ, suc, ◌+◌, ◌-◌, ◌*◌, ◌/◌, ◌^◌, ◌≤◌, ◌<◌}
+use Prim.Native.Nat.{ℕ, suc, ◌+◌, ◌-◌, ◌*◌, ◌^◌, ◌≤◌, ◌<◌}
 use mathlib.Core.Path.{◌≡◌, sym, ◌∙◌}
 use mathlib.Core.Bool.{true}
 use mathlib.Core.List.{List, [], ◌++◌, append_assoc}
@@ -10,6 +10,9 @@ use native.Mathlib.Decide.{ℕ_discrete}
 use borrow.Author.Tests.{eq-eqb, ne_eqb}
 use lib.ListN.{length, get_or, drop, length-append}
 use lib.Seq.{drop-drop, drop-cons, drop-append-le}
+use lib.Dec.{eqb}
+use Rattle.std.specs.Prelude.{not}
+use Rattle.std.specs.Int.{from_bool}
 use Rattle.judgement.specs.Sheet.{first_field, mark, marked, variables, clauses, loss_at, loss_size, clause_pairs_at, cost_of, loss, clause}
 use Rattle.judgement.specs.Writer.{bytes_of, numbers_of, pairs_of, joined, file_of, mark_of, loss_of, sheet_of}
 use Rattle.judgement.specs.Facts.{Among, PairRule, LiteralList, ValidSheet}
@@ -41,11 +44,11 @@ loss_or lost = go (ℕ_discrete lost 0)
     go (yes e) = inl (record { is = e; mark_is = rw (eq-eqb lost 0 e); bytes_are = rw (eq-eqb lost 0 e) })
     go (no h) = inr (record { is = h; mark_is = rw (ne_eqb lost 0 h); bytes_are = rw (ne_eqb lost 0 h) })
 
--- four bytes for the mark's bit
-pub loss_length : (lost : ℕ) → length (loss_of lost) ≡ 4 * (mark_of lost / mark)
+-- four bytes where something is lost
+pub loss_length : (lost : ℕ) → length (loss_of lost) ≡ 4 * from_bool (not (eqb lost 0))
 loss_length lost = elim (loss_or lost) [
-  | inl o ↦ rw (o.bytes_are, o.mark_is)
-  | inr o ↦ rw (o.bytes_are, o.mark_is) (length_bytes 4 lost)
+  | inl o ↦ rw (eq-eqb lost 0 o.is)
+  | inr o ↦ rw (ne_eqb lost 0 o.is) (length_bytes 4 lost)
 ]
 
 -- ---- the head

@@ -2,9 +2,8 @@
 -- Assumes nothing.
 use Rattle.std.specs.Prelude.{ℕ, List, map, length, leb}
 use Rattle.judgement.specs.Scan.{list_of}
-use Rattle.judgement.specs.declared.Finding.{Finding}
 use Rattle.judgement.specs.declared.Written.{Written}
-use Rattle.judgement.specs.Finding.{need, ◌then◌}
+use Rattle.judgement.specs.Finding.{Finding, need, ◌then◌}
 use Rattle.judgement.specs.Sheet.{variables, clauses, cost_of, loss, alone_finding}
 use Rattle.judgement.specs.Writer.{numbers_of, sheet_of}
 use Rattle.judgement.specs.Buffer.{written_by, left_by}

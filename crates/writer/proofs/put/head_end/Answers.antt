@@ -1,13 +1,17 @@
--- `writer::put::head_end` meets its contract: the mark, which is one bit, tells of four bytes.
+-- `writer::put::head_end` meets its contract: four bytes where something is lost.
 -- Assumes nothing.
-use mathlib.Core.Path.{ap, ◌∙◌}
+use Prim.Native.Nat.{◌≤◌}
+use mathlib.Core.Bool.{Bool, true, false}
 use native.Mathlib.Omega.{arith}
-use Rattle.judgement.specs.Writer.{mark_of}
+use Rattle.std.specs.Int.{from_bool}
 use Rattle.writer.proofs.Raw.{end_is}
 use Rattle.writer.proofs.put.head_end.Goals as goal
 
+one_bit : (b : Bool) → from_bool b ≤ 1
+one_bit true = omega arith
+one_bit false = omega arith
+
 pub returns : goal.returns
 returns c =
-    let m = c.mark_of.ensures in
     let l = c.loss_at.ensures in
-    (end_is _ (m.0 ∙ ap mark_of c.loss.ensures.0) l.0, omega (arith, m.1, l.1))
+    (end_is c.args.s.now (rw (← c.loss.ensures.0) c.from-lost.ensures) l.0, omega (arith, l.1, one_bit, c.from-lost.ensures))

@@ -1,10 +1,18 @@
--- `writer::read::u64_at` meets its contract: the two halves make the number by `number_split`.
+-- `writer::read::u64_at` meets its contract: the bytes make the number by `number_split`.
 -- Assumes nothing.
 use native.Mathlib.Omega.{arith}
-use Rattle.layout.proofs.Number.{number_split}
+use Rattle.layout.proofs.Number.{number_split, number_byte}
 use Rattle.writer.proofs.read.u64_at.Goals as goal
 
 pub returns : goal.returns
 returns c =
     let a = c.args in
-    omega (arith, number_split a.part.now a.at 4 4)
+    let s = a.part.now in
+    let one = number_split s a.at 1 1 in
+    let two = number_split s a.at 2 1 in
+    let three = number_split s a.at 3 1 in
+    let four = number_split s a.at 4 1 in
+    let five = number_split s a.at 5 1 in
+    let six = number_split s a.at 6 1 in
+    let seven = number_split s a.at 7 1 in
+    omega (arith, number_byte s)
