@@ -1,10 +1,11 @@
 -- Choosing: the next variable, a literal chosen, and what the cycle of choosing and forcing returns.
 -- Assumes nothing.
-use Prim.Native.Nat.{ℕ, zero, suc, ◌+◌, ◌-◌, ◌*◌, ◌%◌, ◌^◌, ◌≤◌, ◌<◌, min}
+use Prim.Native.Nat.{ℕ, zero, suc, ◌+◌, ◌-◌, ◌*◌, ◌/◌, ◌%◌, ◌^◌, ◌≤◌, ◌<◌, min}
 use mathlib.Core.Path.{◌≡◌, refl, sym, ap, ◌∙◌}
 use mathlib.Core.Bool.{Bool, true, false, not, cond, ◌&&◌, ◌||◌}
 use mathlib.Core.List.{List}
 use mathlib.Core.Logic.{◌⊎◌, inl, inr}
+use Rattle.std.specs.Prelude.{Option, Some, None}
 use native.Mathlib.Omega.{arith}
 use lib.Bits.{bit_or}
 use lib.Count.{count_trailing_zeros}
@@ -19,12 +20,12 @@ use Rattle.search.specs.declared.Work.{Work}
 use Rattle.search.specs.First.{lowest}
 use Rattle.search.specs.Node.{has, add, unsettled, settle, root, node_cost, next_variable}
 use Rattle.search.specs.Search.{after_forcing, dead, leaves, spend, stop, improve, begin, branch, visit, explore, searched}
-use Rattle.search.specs.Work.{node_of, at_node, settle_work, Under, Ready, Reached, Keeps, nothing, counted, counted_cost, Onto, AllQuiet, unsettled_count}
+use Rattle.search.specs.Work.{node_of, at_node, settle_work, Under, Ready, Reached, Keeps, nothing, counted, counted_cost, Leads, AllQuiet, unsettled_count}
 use Rattle.search.specs.Counts.{Counts}
 use Rattle.search.proofs.First.{LowestAt, lowest_some, lowest_zero, lowest_found}
 use Rattle.search.proofs.Sets.{has_empty, has_add, add_new}
 use Rattle.search.proofs.Masks.{add_at, has_or, has_not, one_shifted, lowest_in, none_lower}
-use Rattle.search.proofs.Nodes.{Bounded, variable_positive, variable_negative, is_positive_lem, is_negative, settle_positive, settle_negative, settle_counts, unsettled_not, settled_or, within_cost}
+use Rattle.search.proofs.Nodes.{Bounded, variable_positive, variable_negative, is_positive_lem, settle_positive, settle_negative, settle_counts, unsettled_not, settled_or, within_cost}
 use Rattle.search.proofs.Steps.{explore_visit, visit_left, visit_plan, visit_both, branches_are, branch_stop, branch_below}
 use Rattle.search.proofs.Forcing.{after_narrows, count_most}
 use Rattle.search.proofs.Order.{under_forcing, reached_start}
@@ -50,17 +51,32 @@ module _ (n : ℕ) (p : Node) (small : n ≤ 64) (word : bit_or p.trues p.falses
   settled_before : (u : ℕ) → Among 64 u → u < count_trailing_zeros 64 (free p) + 1 → unsettled p u ≡ false
   settled_before u w l = sym (free_is p u word w) ∙ none_lower (free p) u w.0 (omega (arith, l))
 
-  pub next_none : n < count_trailing_zeros 64 (free p) + 1 → 0 ≡ lowest (unsettled p) n
-  next_none l = sym (lowest_zero (unsettled p) n (λ u w. settled_before u (w.0, omega (arith, w.1, small)) (omega (arith, w.1, l))))
+  pub next_none : n < count_trailing_zeros 64 (free p) + 1 → lowest (unsettled p) n ≡ 0
+  next_none l = (lowest_zero (unsettled p) n (λ u w. settled_before u (w.0, omega (arith, w.1, small)) (omega (arith, w.1, l))))
 
-  pub next_some : count_trailing_zeros 64 (free p) + 1 ≤ n → count_trailing_zeros 64 (free p) + 1 ≡ lowest (unsettled p) n
-  next_some l =
+  found : count_trailing_zeros 64 (free p) + 1 ≤ n → count_trailing_zeros 64 (free p) + 1 ≡ lowest (unsettled p) n
+  found l =
       let w : Among 64 (count_trailing_zeros 64 (free p) + 1) = (omega arith, omega (arith, l, small)) in
       sym (lowest_found (unsettled p) n (count_trailing_zeros 64 (free p) + 1) (record {
         among = (omega arith, l);
         passes = sym (free_is p (count_trailing_zeros 64 (free p) + 1) word w) ∙ lowest_in (free p) (omega (arith, l, small));
         before = λ u a b. settled_before u (a, omega (arith, b, w.1)) b;
       }))
+
+  pub next_some : count_trailing_zeros 64 (free p) + 1 ≤ n → (v : ℕ) → v ≡ count_trailing_zeros 64 (free p) + 1
+      → (v ≡ lowest (unsettled p) n) × Among n v
+  next_some l v e = rw e (found l, (omega arith, l))
+
+-- it is one of 1 to n, and not settled
+pub next_at : (n : ℕ) (p : Node) (v : ℕ) → v ≡ lowest (unsettled p) n → 1 ≤ v → LowestAt (unsettled p) n v
+next_at n p v is-next some = rw is-next (lowest_some (unsettled p) n (omega (arith, is-next, some)))
+
+-- there is a level for what lies below it
+pub room_below : (P : Problem) (p : Node) (v : ℕ) → LowestAt (unsettled p) P.variables v
+    → (at : ℕ) → at + 320 * unsettled_count P.variables p + 320 ≤ 20800 → at + 640 ≤ 20800
+room_below P p v next at l =
+    let f = settle_counts P.variables p (negative v) (rw (variable_negative v) next.among) (rw (variable_negative v) next.passes) in
+    omega (arith, l, f)
 
 -- ---- a literal chosen
 
@@ -70,15 +86,15 @@ alone v w = one_shifted (v - 1) (omega (arith, w.0, w.1)) ∙ sym (add_at 0 v w.
 added : (set v : ℕ) → Among 64 v → bit_or set (1 * 2 ^ (v - 1) % 18446744073709551616) ≡ add set v
 added set v w = rw (one_shifted (v - 1) (omega (arith, w.0, w.1))) (sym (add_at set v w.0))
 
-pub chosen_false : (p : Node) (v : ℕ) → Among 64 v
-    → ◌≡◌ {A = Work} (record { trues = p.trues; falses = bit_or p.falses (1 * 2 ^ (v - 1) % 18446744073709551616); todo = 1 * 2 ^ (v - 1) % 18446744073709551616; dead = false })
-    (settle_work (at_node p) (negative v))
-chosen_false p v w = rw (settle_negative p (negative v) (is_negative v), variable_negative v, added p.falses v w, alone v w)
+pub chosen_positive : (p : Node) (c : ℕ) → Among 64 (variable_of c) → c % 2 ≡ 0
+    → ◌≡◌ {A = Work} (record { trues = bit_or p.trues (1 * 2 ^ (c / 2 - 1) % 18446744073709551616); falses = p.falses; todo = 1 * 2 ^ (c / 2 - 1) % 18446744073709551616 })
+    (settle_work (at_node p) c)
+chosen_positive p c w e = rw (settle_positive p c (eq-eqb (c % 2) 0 e), added p.trues (variable_of c) w, alone (variable_of c) w)
 
-pub chosen_true : (p : Node) (v : ℕ) → Among 64 v
-    → ◌≡◌ {A = Work} (record { trues = bit_or p.trues (1 * 2 ^ (v - 1) % 18446744073709551616); falses = p.falses; todo = 1 * 2 ^ (v - 1) % 18446744073709551616; dead = false })
-    (settle_work (at_node p) (positive v))
-chosen_true p v w = rw (settle_positive p (positive v) (is_positive_lem v), variable_positive v, added p.trues v w, alone v w)
+pub chosen_negative : (p : Node) (c : ℕ) → Among 64 (variable_of c) → (c % 2 ≡ 0 → ⊥)
+    → ◌≡◌ {A = Work} (record { trues = p.trues; falses = bit_or p.falses (1 * 2 ^ (c / 2 - 1) % 18446744073709551616); todo = 1 * 2 ^ (c / 2 - 1) % 18446744073709551616 })
+    (settle_work (at_node p) c)
+chosen_negative p c w e = rw (settle_negative p c (ne_eqb (c % 2) 0 e), added p.falses (variable_of c) w, alone (variable_of c) w)
 
 -- ---- a node where nothing is forced
 
@@ -92,10 +108,13 @@ quiet_ready P p quiet = record {
 }
 
 -- the branch on which the unsettled literal c is chosen: its clauses are to be looked at, and its cost is not yet counted
-module _ (P : Problem) (p : Node) (quiet : AllQuiet P p) (c : ℕ) (among : Among P.variables (variable_of c))
-    (free-yet : unsettled p (variable_of c) ≡ true) (w : Work) (is : w ≡ settle_work (at_node p) c) where
-  pub child_on : w.dead ≡ false
-  child_on = ap (λ (y : Work). y.dead) is
+module _ (P : Problem) (p : Node) (quiet : AllQuiet P p) (v : ℕ) (next : LowestAt (unsettled p) P.variables v) (c : ℕ)
+    (same : variable_of c ≡ v) (w : Work) (is : w ≡ settle_work (at_node p) c) where
+  among : Among P.variables (variable_of c)
+  among = rw same next.among
+
+  free-yet : unsettled p (variable_of c) ≡ true
+  free-yet = rw same next.passes
 
   pub child_ready : Ready P w nothing
   child_ready = rw is (ready_settle P (at_node p) nothing c among free-yet (quiet_ready P p quiet))
@@ -136,15 +155,11 @@ module _ (P : Problem) (bounded : Bounded P) (p : Node) (S : Progress) (quiet : 
   unfolding next_variable improve
   chosen_plan z = rw is-price (sym (visit_plan P p S below stays (eq-eqb (lowest (unsettled p) P.variables) 0 z)))
 
-  module _ (v : ℕ) (is-next : v ≡ lowest (unsettled p) P.variables) (some : v ≡ 0 → ⊥) where
+  module _ (v : ℕ) (is-next : v ≡ lowest (unsettled p) P.variables) (some : 1 ≤ v) where
     both : branch P below p (positive v) (branch P below p (negative v) S) ≡ visit P below p S
     unfolding next_variable
-    both = rw is-next (sym (visit_both P p S below stays (ne_eqb (lowest (unsettled p) P.variables) 0 (λ z. some (is-next ∙ z)))
+    both = rw is-next (sym (visit_both P p S below stays (ne_eqb (lowest (unsettled p) P.variables) 0 (λ z. omega (arith, some, is-next, z)))
         ∙ branches_are P p S below (lowest (unsettled p) P.variables)))
-
-    -- it is one of 1 to n, and not settled
-    pub next_at : LowestAt (unsettled p) P.variables v
-    next_at = rw is-next (lowest_some (unsettled p) P.variables (omega (arith, is-next, some)))
 
     -- the budget is spent: neither branch is begun
     pub chosen_none : S.left ≡ 0 → stop price S ≡ visit P below p S
@@ -225,31 +240,32 @@ module _ (P : Problem) (bounded : Bounded P) (p : Node) (v : ℕ) (among : Among
 
 -- ---- the whole search
 
-module _ (P : Problem) (bounded : Bounded P) (w : Work) (onto : Onto (at_node root) w) (keeps : Keeps P (at_node root) (λ k. true) w nothing)
-    (budget : ℕ) (S : Progress) (is-begin : S ≡ begin budget) where
-  pub root_ready : w.dead ≡ false → Ready P w nothing
-  root_ready on = keeps.ready (record {
-    consistent = λ v t f. clash t (has_empty v);
-    inside = λ v t. absurd (clash t (has_empty v));
-    settled = λ v t. absurd (clash t (has_empty v));
-    looked = λ k a. inr (inr refl);
-  }) on
-
-  -- no variable has been counted
-  pub root_price : P.loss ≡ counted_cost P w
-  unfolding cost cost_of_true
-  root_price = sym (counted_same P (at_node root) w onto ∙ rw none (omega arith))
-    where
-      none : sum_of (λ v. cond (counted (at_node root) v) (P.cost_of v) 0) P.variables ≡ 0
-      none = sum_zero _ P.variables (λ v. rw (has_empty v))
-
-  pub root_dead : w.dead ≡ true → S ≡ searched P budget
+module _ (P : Problem) (bounded : Bounded P) (r : Option Work) (leads : Leads (at_node root) r)
+    (keeps : Keeps P (at_node root) (λ k. true) r nothing) (budget : ℕ) (S : Progress) (is-begin : S ≡ begin budget) where
+  pub root_dead : r ≡ None → S ≡ searched P budget
   unfolding searched
   root_dead off = rw is-begin (forced_left P root (begin budget) (inl (keeps.stops off root (reached_start P bounded root))) (P.variables + 1) (omega arith))
 
-  pub root_explored : (R : Progress)
-      → ((q : Node) (deep : ℕ) → Reached P q (node_of w) → unsettled_count P.variables q < deep → R ≡ explore P deep q S) → R ≡ searched P budget
-  unfolding searched
-  root_explored R h =
-      let l = count_most P.variables root in
-      rw (← is-begin) (h root (P.variables + 1) (keeps.reached root (reached_start P bounded root)) (omega (arith, l)))
+  module _ (w : Work) (on : r ≡ Some w) where
+    pub root_ready : Ready P w nothing
+    root_ready = keeps.ready w on (record {
+      consistent = λ v t f. clash t (has_empty v);
+      inside = λ v t. absurd (clash t (has_empty v));
+      settled = λ v t. absurd (clash t (has_empty v));
+      looked = λ k a. inr (inr refl);
+    })
+
+    -- no variable has been counted
+    pub root_price : P.loss ≡ counted_cost P w
+    unfolding cost cost_of_true
+    root_price = sym (counted_same P (at_node root) w (leads w on) ∙ rw none (omega arith))
+      where
+        none : sum_of (λ v. cond (counted (at_node root) v) (P.cost_of v) 0) P.variables ≡ 0
+        none = sum_zero _ P.variables (λ v. rw (has_empty v))
+
+    pub root_explored : (R : Progress)
+        → ((q : Node) (deep : ℕ) → Reached P q (node_of w) → unsettled_count P.variables q < deep → R ≡ explore P deep q S) → R ≡ searched P budget
+    unfolding searched
+    root_explored R h =
+        let l = count_most P.variables root in
+        rw (← is-begin) (h root (P.variables + 1) (keeps.reached w on root (reached_start P bounded root)) (omega (arith, l)))

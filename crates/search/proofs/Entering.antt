@@ -6,22 +6,22 @@ use mathlib.Core.Bool.{Bool, true, false, ◌&&◌, ◌||◌, or-false, and-fals
 use mathlib.Core.List.{List}
 use native.Mathlib.Omega.{arith}
 use native.Mathlib.Numerals.{add-one}
-use native.Mathlib.Decide.{dec_lt, ℕ_discrete}
-use lib.Dec.{eqb, leb}
+use native.Mathlib.Decide.{ℕ_discrete}
+use lib.Dec.{eqb}
 use lib.Bits.{bit_or}
-use lib.ListN.{length, get_or, set, replicate, length-set}
+use lib.ListN.{length, get_or, set, replicate}
 use lib.Seq.{get_or-set_same, get_or-set_other}
-use borrow.Author.Tests.{eq-eqb, ne_eqb, eqb-true, le-leb, lt-leb}
+use borrow.Author.Tests.{eq-eqb, ne_eqb, eqb-true, lt-leb}
 use Rattle.judgement.specs.Scan.{any_of}
-use Rattle.judgement.specs.Meaning.{positive, negative, variable_of}
+use Rattle.judgement.specs.Meaning.{variable_of}
 use Rattle.judgement.specs.Number.{number_at}
 use Rattle.judgement.specs.Literals.{count, code, holds}
-use Rattle.judgement.specs.Sheet.{variables, clauses, cost_of, clause}
+use Rattle.judgement.specs.Sheet.{variables, clauses, clause}
 use Rattle.judgement.specs.Facts.{Among, LiteralList, ValidSheet}
 use Rattle.judgement.proofs.Laws.Scan.{and_i, and_l, and_r, true_same, false_i}
 use Rattle.layout.proofs.Literals.{code_next, variable_next}
 use Rattle.search.specs.Node.{has}
-use Rattle.search.specs.Tables.{positives, negatives, in_row, Small, Costed, Masked, Rowed}
+use Rattle.search.specs.Tables.{in_row, Rowed}
 use Rattle.search.proofs.Sets.{has_empty}
 use Rattle.search.proofs.Masks.{has_or, has_single, one_shifted}
 
@@ -91,62 +91,31 @@ pub gathered_more : (part : List ℕ) (odd held next c i : ℕ) → Gathered par
 gathered_more part odd held next c i old e h v =
     h v ∙ ap₂ ◌||◌ (old v) (ap (λ (x : ℕ). eqb x (2 * v + odd)) (code_next part i e)) ∙ any_next (λ j. eqb (code part j) (2 * v + odd)) i
 
+-- a literal enters the set of its kind
+pub sets_more : (part sets : List ℕ) (c i : ℕ) → length sets ≡ 2 → Among 64 (c / 2) → c ≡ number_at part (2 * i) 2
+    → ((odd : ℕ) → odd ≤ 1 → Gathered part odd (get_or sets odd 0) i) → (odd : ℕ) → odd ≤ 1
+    → Gathered part odd
+    (get_or (set sets (c % 2) (bit_or (get_or sets (c % 2) 0) (1 * 2 ^ (c / 2 - 1) % 18446744073709551616))) odd 0) (i + 1)
+sets_more part sets c i size w e old odd l =
+    gathered_more part odd (get_or sets odd 0) (get_or more odd 0) c i (old odd l) e (λ v. go v (ℕ_discrete odd (c % 2)))
+  where
+    more : List ℕ
+    more = set sets (c % 2) (bit_or (get_or sets (c % 2) 0) (1 * 2 ^ (c / 2 - 1) % 18446744073709551616))
+
+    go : (v : ℕ) → Dec (odd ≡ c % 2) → has (get_or more odd 0) v ≡ has (get_or sets odd 0) v || eqb c (2 * v + odd)
+    go v (yes z) =
+        ap (λ (x : ℕ). has (get_or more x 0) v) z
+        ∙ ap (λ (x : ℕ). has x v) (get_or-set_same sets (c % 2) _ 0 (rw size (omega (arith, l, z))))
+        ∙ ap (λ (x : ℕ). has (bit_or (get_or sets x 0) (1 * 2 ^ (c / 2 - 1) % 18446744073709551616)) v) (sym z)
+        ∙ literal_this (get_or sets odd 0) c odd v w l (sym z)
+    go v (no z) =
+        ap (λ (x : ℕ). has x v) (get_or-set_other sets (c % 2) odd _ 0 z)
+        ∙ literal_other (get_or sets odd 0) c odd v l (λ q. z (sym q))
+
 pub gathered_all : (part : List ℕ) (odd held i : ℕ) → Gathered part odd held i → i ≡ count part
     → (v : ℕ) → has held v ≡ holds part (2 * v + odd)
 unfolding holds
 gathered_all part odd held i h e v = h v ∙ rw e
-
--- ---- the costs
-
-pub costed_more : (s costs : List ℕ) (v x : ℕ) → v < length costs → Costed s costs v → x ≡ cost_of s (v + 1)
-    → Costed s (set costs v x) (v + 1)
-costed_more s costs v x l old e j w = go (ℕ_discrete (j - 1) v)
-  where
-    go : Dec (j - 1 ≡ v) → get_or (set costs v x) (j - 1) 0 ≡ cost_of s j
-    go (yes z) =
-        let y : v + 1 - 1 ≡ v = omega arith in
-        rw (z, get_or-set_same costs v x 0 l) (rw y at e)
-    go (no z) = rw (get_or-set_other costs v (j - 1) x 0 z) (old j (w.0, omega (arith, z, w.0, w.1)))
-
-pub small_more : (costs : List ℕ) (v x : ℕ) → v < length costs → Small costs → x < 2 ^ 32 → Small (set costs v x)
-small_more costs v x l old b j = go (ℕ_discrete j v)
-  where
-    go : Dec (j ≡ v) → get_or (set costs v x) j 0 < 2 ^ 32
-    go (yes z) = rw (z, get_or-set_same costs v x 0 l) b
-    go (no z) = rw (get_or-set_other costs v j x 0 z) (old j)
-
--- ---- the two sets of a clause
-
-pub masked_more : (s masks : List ℕ) (k x y : ℕ) → 2 * k + 1 < length masks → Masked s masks k
-    → ((v : ℕ) → has x v ≡ holds (clause s (k + 1)) (2 * v + 0)) → ((v : ℕ) → has y v ≡ holds (clause s (k + 1)) (2 * v + 1))
-    → Masked s (set (set masks (2 * k) x) (2 * k + 1) y) (k + 1)
-masked_more s masks k x y l old p q j w v = go (ℕ_discrete (j - 1) k)
-  where
-    more : List ℕ
-    more = set (set masks (2 * k) x) (2 * k + 1) y
-
-    kept : (at : ℕ) → (at ≡ 2 * k + 1 → ⊥) → (at ≡ 2 * k → ⊥) → get_or more at 0 ≡ get_or masks at 0
-    kept at f g = get_or-set_other (set masks (2 * k) x) (2 * k + 1) at y 0 f ∙ get_or-set_other masks (2 * k) at x 0 g
-
-    first : get_or more (2 * k) 0 ≡ x
-    first =
-        get_or-set_other (set masks (2 * k) x) (2 * k + 1) (2 * k) y 0 (λ d. omega (arith, d))
-        ∙ get_or-set_same masks (2 * k) x 0 (omega (arith, l))
-
-    second : get_or more (2 * k + 1) 0 ≡ y
-    second = get_or-set_same (set masks (2 * k) x) (2 * k + 1) y 0 (rw (length-set masks (2 * k) x) l)
-
-    go : Dec (j - 1 ≡ k)
-        → (has (positives more j) v ≡ holds (clause s j) (positive v)) × (has (negatives more j) v ≡ holds (clause s j) (negative v))
-    go (yes z) =
-        let e : j ≡ k + 1 = omega (arith, z, w.0) in
-        let t : 2 * v + 0 ≡ 2 * v = omega arith in
-        (rw (z, first) (rw (t, ← e) at (p v)), rw (z, second) (rw (← e) at (q v)))
-    go (no z) =
-        let i = old j (w.0, omega (arith, z, w.0, w.1)) v in (
-          rw (kept (2 * (j - 1)) (λ d. omega (arith, z, d)) (λ d. omega (arith, z, d))) i.0,
-          rw (kept (2 * (j - 1) + 1) (λ d. omega (arith, z, d)) (λ d. omega (arith, z, d))) i.1,
-        )
 
 -- ---- the rows of literals
 
@@ -234,19 +203,3 @@ entered_all part k before rows i h e c j w r = h c j w r ∙ rw e
 pub rowed_none : (s rows : List ℕ) → ((i : ℕ) → get_or rows i 0 ≡ 0) → Rowed s rows 0
 rowed_none s rows h c j w r =
     rw (h (64 * (c - 2) + (j - 1) / 64), lt-leb j 0 (omega (arith, r.0))) (has_empty ((j - 1) % 64 + 1))
-
-pub rowed_more : (s before rows : List ℕ) (k : ℕ) → Rowed s before k
-    → ((c j : ℕ) → Among 64 (variable_of c) → Among 4096 j
-    → in_row rows c j ≡ in_row before c j || (eqb j (k + 1) && holds (clause s (k + 1)) c))
-    → Rowed s rows (k + 1)
-rowed_more s before rows k old new c j w r =
-    new c j w r ∙ ap (λ b. b || (eqb j (k + 1) && holds (clause s (k + 1)) c)) (old c j w r) ∙ go (ℕ_discrete j (k + 1)) (dec_lt j (k + 1))
-  where
-    go : Dec (j ≡ k + 1) → Dec (j < k + 1)
-        → (leb j k && holds (clause s j) c) || (eqb j (k + 1) && holds (clause s (k + 1)) c) ≡ leb j (k + 1) && holds (clause s j) c
-    go (yes z) d =
-        rw (lt-leb j k (omega (arith, z)), eq-eqb j (k + 1) z, le-leb j (k + 1) (omega (arith, z)))
-        (ap (λ (h : ℕ). holds (clause s h) c) (sym z))
-    go (no z) (yes l) =
-        rw (le-leb j k (omega (arith, l)), ne_eqb j (k + 1) z, le-leb j (k + 1) (omega (arith, l))) (or-false (holds (clause s j) c))
-    go (no z) (no l) = rw (lt-leb j k (omega (arith, l)), ne_eqb j (k + 1) z, lt-leb j (k + 1) (omega (arith, z, l)))

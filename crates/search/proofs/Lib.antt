@@ -21,6 +21,7 @@ pub mod Walking
 pub mod Pricing
 pub mod Counting
 pub mod Rounds
+pub mod Round
 pub mod Choosing
 pub mod Entering
 pub mod Filling

@@ -4,6 +4,7 @@ use Prim.Native.Nat.{ℕ, ◌%◌, ◌≤◌}
 use mathlib.Core.Path.{◌≡◌, refl, sym, ap, ◌∙◌}
 use mathlib.Core.Bool.{Bool, true, false, not, cond, ◌&&◌, ◌||◌}
 use mathlib.Core.Logic.{◌⊎◌, inl, inr}
+use Rattle.std.specs.Prelude.{Option, Some, None}
 use native.Mathlib.Omega.{arith}
 use native.Mathlib.Decide.{ℕ_discrete}
 use lib.Dec.{eqb}
@@ -15,7 +16,7 @@ use Rattle.search.specs.declared.Node.{Node}
 use Rattle.search.specs.declared.Work.{Work}
 use Rattle.search.specs.Node.{has, add, unsettled, settled_false, settle, last_code, falsified, forces, forced_by}
 use Rattle.search.specs.Search.{forced, after_forcing, dead}
-use Rattle.search.specs.Work.{node_of, settle_work, Quiet, two, true_one, Pending, Looked, is_false, is_quiet, is_unit, Consistent, Ready, Reached, Keeps, nothing, stands, Onto, AllQuiet}
+use Rattle.search.specs.Work.{node_of, settle_work, Quiet, two, true_one, Pending, Looked, is_false, is_quiet, is_unit, Consistent, Ready, Reached, Keeps, Leads, nothing, stands, Onto, AllQuiet}
 use Rattle.search.proofs.First.{first_zero, lowest_zero}
 use Rattle.search.proofs.Sets.{has_add, add_new, add_old, add_or}
 use Rattle.search.proofs.Nodes.{Bounded, settle_positive, settle_negative, settle_trues, settle_falses, settled_now, others_stay, unsettled_not}
@@ -155,64 +156,68 @@ module _ (P : Problem) where
         | inr x ↦ ready.consistent v t x
       ])
 
-  pub keeps_then : (w u r : Work) (R R' R'' : ℕ → Bool) → u.dead ≡ false → Keeps P w R u R' → Keeps P u R' r R'' → Keeps P w R r R''
-  keeps_then w u r R R' R'' on first then = record {
-    ready = λ x e. then.ready (first.ready x on) e;
-    reached = λ p x. then.reached p (first.reached p x);
-    stops = λ e p x. then.stops e p (first.reached p x);
+  pub keeps_then : (w u : Work) (r : Option Work) (R R' R'' : ℕ → Bool) → Keeps P w R (Some u) R' → Keeps P u R' r R'' → Keeps P w R r R''
+  keeps_then w u r R R' R'' first then = record {
+    ready = λ v e x. then.ready v e (first.ready u refl x);
+    reached = λ v e p x. then.reached v e p (first.reached u refl p x);
+    stops = λ e p x. then.stops e p (first.reached u refl p x);
   }
 
-  pub keeps_less : (w r : Work) (R R' R'' : ℕ → Bool) → Keeps P w R r R'
+  pub keeps_less : (w : Work) (r : Option Work) (R R' R'' : ℕ → Bool) → Keeps P w R r R'
       → ((k : ℕ) → Among P.clauses k → R' k ≡ true → R'' k ≡ true) → Keeps P w R r R''
   keeps_less w r R R' R'' keeps less = record {
-    ready = λ x e. ready_less r R' R'' (keeps.ready x e) (λ k a t. inr (less k a t));
+    ready = λ v e x. ready_less v R' R'' (keeps.ready v e x) (λ k a t. inr (less k a t));
     reached = keeps.reached;
     stops = keeps.stops;
   }
 
-  pub keeps_more : (w r : Work) (R R' R'' : ℕ → Bool) → ((k : ℕ) → Among P.clauses k → R k ≡ true → R' k ≡ true)
+  pub keeps_more : (w : Work) (r : Option Work) (R R' R'' : ℕ → Bool) → ((k : ℕ) → Among P.clauses k → R k ≡ true → R' k ≡ true)
       → Keeps P w R' r R'' → Keeps P w R r R''
   keeps_more w r R R' R'' more keeps = record {
-    ready = λ x e. keeps.ready (ready_less w R R' x (λ k a t. inr (more k a t))) e;
+    ready = λ v e x. keeps.ready v e (ready_less w R R' x (λ k a t. inr (more k a t)));
     reached = keeps.reached;
     stops = keeps.stops;
   }
 
   -- where a clause is false nothing is left to look at
-  pub keeps_dead : (w r : Work) (R R' R'' : ℕ → Bool) → r.dead ≡ true → Keeps P w R r R' → Keeps P w R r R''
+  pub keeps_dead : (w : Work) (r : Option Work) (R R' R'' : ℕ → Bool) → r ≡ None → Keeps P w R r R' → Keeps P w R r R''
   keeps_dead w r R R' R'' off keeps = record {
-    ready = λ x e. absurd (clash off e);
+    ready = λ v e x. cc;
     reached = keeps.reached;
     stops = keeps.stops;
   }
 
-  pub keeps_self : (w : Work) (R : ℕ → Bool) → w.dead ≡ false → Keeps P w R w R
-  keeps_self w R on = record { ready = λ x e. x; reached = λ p x. x; stops = λ e. absurd (clash e on) }
+  pub keeps_self : (w : Work) (R : ℕ → Bool) → Keeps P w R (Some w) R
+  keeps_self w R = record {
+    ready = λ v e x. let z : w ≡ v = cc in rw (← z) x;
+    reached = λ v e p x. let z : w ≡ v = cc in rw (← z) x;
+    stops = λ e p x. cc;
+  }
 
   module _ (bounded : Bounded P) where
     -- clause k is looked at, and is not to be looked at any more
-    pub keeps_look : (w r : Work) (R R' : ℕ → Bool) (k : ℕ) → Among P.clauses k → w.dead ≡ false
+    pub keeps_look : (w : Work) (r : Option Work) (R R' : ℕ → Bool) (k : ℕ) → Among P.clauses k
         → Looked P.variables (P.clause k) w r → ((j : ℕ) → Among P.clauses j → R j ≡ true → (j ≡ k) ⊎ (R' j ≡ true)) → Keeps P w R r R'
-    keeps_look w r R R' k a on (is_false f e) less = record {
-      ready = λ x d. absurd (clash (ap (λ (y : Work). y.dead) e) d);
-      reached = λ p x. rw e x;
+    keeps_look w r R R' k a (is_false f e) less = record {
+      ready = λ v d x. cc;
+      reached = λ v d p x. cc;
       stops = λ d p x. reached_false P bounded p (node_of w) x k a f;
     }
-    keeps_look w r R R' k a on (is_quiet quiet e) less = record {
-      ready = λ x d. rw e (ready_less w R R' x (λ j b t. elim (less j b t) [
+    keeps_look w r R R' k a (is_quiet quiet e) less = record {
+      ready = λ v d x. let z : w ≡ v = cc in rw (← z) (ready_less w R R' x (λ j b t. elim (less j b t) [
         | inl y ↦ inl (rw y quiet)
         | inr y ↦ inr y
       ]));
-      reached = λ p x. rw e x;
-      stops = λ d. absurd (clash (sym (ap (λ (y : Work). y.dead) e) ∙ d) on);
+      reached = λ v d p x. let z : w ≡ v = cc in rw (← z) x;
+      stops = λ d p x. cc;
     }
-    keeps_look w r R R' k a on (is_unit c f e) less = record {
-      ready = λ x d. rw e (ready_less (settle_work w c) R R' (ready_settle w R c among u x) (λ j b t. elim (less j b t) [
+    keeps_look w r R R' k a (is_unit c f e) less = record {
+      ready = λ v d x. let z : settle_work w c ≡ v = cc in rw (← z) (ready_less (settle_work w c) R R' (ready_settle w R c among u x) (λ j b t. elim (less j b t) [
         | inl y ↦ inl (rw y now)
         | inr y ↦ inr y
       ]));
-      reached = λ p x. rw e (reached_forced P bounded p (node_of w) x k a c f);
-      stops = λ d. absurd (clash (sym (ap (λ (y : Work). y.dead) e) ∙ d) on);
+      reached = λ v d p x. let z : settle_work w c ≡ v = cc in rw (← z) (reached_forced P bounded p (node_of w) x k a c f);
+      stops = λ d p x. cc;
     }
       where
         i : P.clause k c ≡ true
@@ -274,12 +279,19 @@ onto_settle w c h u = record {
     gone true t d = refl
     gone false t d = refl
 
-pub onto_look : (n : ℕ) (C : Literals) (w r : Work) → ((c : ℕ) → C c ≡ true → Among n (variable_of c)) → Looked n C w r → Onto w r
-onto_look n C w r bounded (is_false f e) = rw e (record { under = under_self (node_of w); same = λ v. refl; lighter = λ v. omega arith; standing = λ C c. refl })
-onto_look n C w r bounded (is_quiet q e) = rw e (onto_self w)
-onto_look n C w r bounded (is_unit c f e) =
-    let (i, u) = forces_in n (node_of w) C c f in
-    rw e (onto_settle w c (bounded c i).0 u)
+pub leads_self : (w : Work) → Leads w (Some w)
+leads_self w u e = let z : w ≡ u = cc in rw (← z) (onto_self w)
+
+pub leads_then : (w u : Work) (r : Option Work) → Leads w (Some u) → Leads u r → Leads w r
+leads_then w u r first then v e = onto_trans w u v (first u refl) (then v e)
+
+pub leads_look : (n : ℕ) (C : Literals) (w : Work) (r : Option Work) → ((c : ℕ) → C c ≡ true → Among n (variable_of c)) → Looked n C w r → Leads w r
+leads_look n C w r bounded (is_false f e) u d = cc
+leads_look n C w r bounded (is_quiet q e) u d = let z : w ≡ u = cc in rw (← z) (onto_self w)
+leads_look n C w r bounded (is_unit c f e) u d =
+    let (i, free) = forces_in n (node_of w) C c f in
+    let z : settle_work w c ≡ u = cc in
+    rw (← z) (onto_settle w c (bounded c i).0 free)
 
 -- ---- the end
 

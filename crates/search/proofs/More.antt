@@ -7,8 +7,8 @@ use mathlib.Core.List.{List}
 use native.Mathlib.Omega.{arith}
 use lib.Dec.{eqb}
 use borrow.Author.Tests.{eqb-false, ne_eqb, not-true}
-use Rattle.judgement.specs.declared.Finding.{Finding}
-use Rattle.judgement.specs.declared.Finding.TheVariants.{Fine, Fault}
+use Rattle.std.specs.Prelude.{Ok, Err}
+use Rattle.judgement.specs.Finding.{Finding}
 use Rattle.judgement.specs.Sheet.{problem_of}
 use Rattle.judgement.specs.Meaning.{positive, negative, Problem}
 use Rattle.judgement.proofs.Laws.Scan.{clash}
@@ -112,7 +112,7 @@ unfolding found
 found_more s budget d = go (search_finding s)
   where
     go : (f : Finding) → (answer_after s budget f).ended ≡ true → answer_after s (budget + d) f ≡ answer_after s budget f
-    go Fine h =
+    go (Ok _) h =
         let e = searched_more (problem_of s) budget d (not-true (searched (problem_of s) budget).stopped h) in
         ap (answered (budget + d)) e ∙ answered_lend budget d (searched (problem_of s) budget)
-    go (Fault N P) h = refl
+    go (Err x) h = refl

@@ -5,6 +5,7 @@ use mathlib.Core.Path.{◌≡◌, refl, sym, ap, ◌∙◌}
 use mathlib.Core.Bool.{Bool, true, false, not, cond, ◌&&◌}
 use mathlib.Core.List.{List}
 use mathlib.Core.Logic.{◌⊎◌, inl, inr}
+use Rattle.std.specs.Prelude.{None}
 use native.Mathlib.Omega.{arith}
 use native.Mathlib.Decide.{ℕ_discrete}
 use lib.Dec.{eqb}
@@ -19,11 +20,10 @@ use Rattle.judgement.proofs.Laws.Scan.{which, clash, and_l, sum_change, sum_more
 use Rattle.search.specs.declared.Node.{Node}
 use Rattle.search.specs.declared.Size.{Size}
 use Rattle.search.specs.declared.Work.{Work}
-use Rattle.search.specs.declared.Settled.{Settled}
 use Rattle.search.specs.Node.{has, node_cost}
 use Rattle.search.specs.Search.{after_forcing, dead}
 use Rattle.search.specs.Tables.{table_problem, FineCosts}
-use Rattle.search.specs.Work.{node_of, Ready, Reached, Keeps, nothing, counted, counted_cost, load, Onto, false_literal, looked_at, Outcome}
+use Rattle.search.specs.Work.{node_of, Ready, Reached, nothing, counted, counted_cost, load, Onto, false_literal, looked_at, Outcome}
 use Rattle.search.proofs.Sets.{has_empty}
 use Rattle.search.proofs.Masks.{has_read, has_rest, lowest_in, lowest_small}
 use Rattle.search.proofs.Nodes.{within_cost}
@@ -171,24 +171,7 @@ module _ (P : Problem) (w : Work) (some : 1 ≤ w.todo) (word : w.todo < 2 ^ 64)
       let g = counted_more w some word P (ready.inside low (todo_has w some word)) in
       omega (arith, e, f, g)
 
-module _ (P : Problem) (w u r : Work) (R : ℕ → Bool) (is-looked : u ≡ looked_at w) (ready : Ready P (looked_at w) R) (onto : Onto u r)
-    (keeps : Keeps P u R r nothing) where
-  pub round_onto : Onto (looked_at w) r
-  round_onto = rw (← is-looked) onto
-
-  round_keeps : Keeps P (looked_at w) R r nothing
-  round_keeps = rw (← is-looked) keeps
-
-  pub round_ready : r.dead ≡ false → Ready P r nothing
-  round_ready on = round_keeps.ready ready on
-
-  pub round_reached : (p : Node) → Reached P p (node_of w) → Reached P p (node_of r)
-  round_reached p x = round_keeps.reached p x
-
-  pub round_dead : r.dead ≡ true → (p : Node) → Reached P p (node_of w) → dead P (after_forcing P p) ≡ true
-  round_dead off p x = round_keeps.stops off p x
-
 -- a node that is left
-pub left_outcome : (P : Problem) (best : ℕ) (p : Node) (r : Settled) → r.gone ≡ true
-    → (dead P (after_forcing P p) ≡ true) ⊎ (best ≤ node_cost P (after_forcing P p)) → Outcome P best p r
-left_outcome P best p r left why = record { leaves = λ e. why; stays = λ e. absurd (clash left e) }
+pub left_outcome : (P : Problem) (best : ℕ) (p : Node) → (dead P (after_forcing P p) ≡ true) ⊎ (best ≤ node_cost P (after_forcing P p))
+    → Outcome P best p None
+left_outcome P best p why = record { leaves = λ e. why; stays = λ f e. cc }

@@ -8,9 +8,8 @@ use mathlib.Core.Logic.{◌⊎◌, inl, inr}
 use native.Mathlib.Omega.{arith}
 use lib.Dec.{eqb, leb}
 use borrow.Author.Tests.{eq-eqb, ne_eqb, not-true, not-false}
-use Rattle.judgement.specs.declared.Finding.{Finding}
-use Rattle.judgement.specs.declared.Finding.TheVariants.{Fine, Fault}
-use Rattle.judgement.specs.Finding.{is_fine}
+use Rattle.std.specs.Prelude.{Ok, Err}
+use Rattle.judgement.specs.Finding.{Finding, fault, is_fine}
 use Rattle.judgement.specs.Meaning.{Assignment, Problem, cost, Model, Breaks, none}
 use Rattle.judgement.specs.Sheet.{variables, clause, problem_of, alone_finding}
 use Rattle.judgement.specs.Facts.{ValidSheet}
@@ -151,12 +150,12 @@ sheet_bounded s valid k w c e =
     let (i, a, q) = in_mention (clause s k) c (holds_in (clause s k) c e) in
     rw q at ((valid.lists k w).variables.range i a)
 
-pub fine_valid : (s : List ℕ) → search_finding s ≡ Fine → ValidSheet s
+pub fine_valid : (s : List ℕ) → search_finding s ≡ Ok tt → ValidSheet s
 unfolding search_finding
 fine_valid s e = alone_valid s (then_l (alone_finding s) (too_many s) (ap is_fine e))
 
 -- a refusal has a number
-refused_by : (s : List ℕ) (N P : ℕ) → search_finding s ≡ Fault N P → 1 ≤ N
+refused_by : (s : List ℕ) (N P : ℕ) → search_finding s ≡ fault N P → 1 ≤ N
 unfolding search_finding too_many
 refused_by s N P e = elim (then_found (alone_finding s) (too_many s) N P e) [
   | inl f ↦ (alone_number s N P f).0
@@ -168,14 +167,14 @@ unfolding found
 sheet_promised s bytes budget = go (search_finding s) refl
   where
     go : (f : Finding) → search_finding s ≡ f → Promised s budget (answer_after s budget f)
-    go Fine e =
+    go (Ok _) e =
         let valid = fine_valid s e in
         record {
           refused = λ z. absurd (z refl);
           searched = λ z.
               promised (problem_of s) (sheet_bounded s valid) budget (cost_below_none s bytes valid.n.1) (model_or_breaks s);
         }
-    go (Fault N P) e = record {
+    go (Err x) e = record {
       refused = λ z. (refl, refl, refl, refl, refl);
-      searched = λ z. absurd (omega (arith, refused_by s N P e, z));
+      searched = λ z. absurd (omega (arith, refused_by s x.number x.place e, z));
     }

@@ -8,9 +8,8 @@ use native.Mathlib.Omega.{arith}
 use native.Mathlib.Decide.{dec_lt}
 use lib.Dec.{leb}
 use borrow.Author.Tests.{le-leb, lt-leb}
-use Rattle.judgement.specs.declared.Finding.{Finding}
-use Rattle.judgement.specs.declared.Finding.TheVariants.{Fine, Fault}
-use Rattle.judgement.specs.Finding.{is_fine, need, ◌then◌}
+use Rattle.std.specs.Prelude.{Ok, Err}
+use Rattle.judgement.specs.Finding.{Finding, fault, is_fine, need, ◌then◌}
 use Rattle.judgement.specs.Sheet.{variables, alone_finding}
 use Rattle.judgement.specs.Facts.{ValidSheet}
 use Rattle.judgement.proofs.Facts.Layouts.{alone_valid, valid_alone, alone_number}
@@ -21,7 +20,7 @@ pub refused_when : (s : List ℕ) (budget : ℕ) → RefusedWhen s (found s budg
 unfolding found search_finding too_many
 refused_when s budget = go (alone_finding s) refl (dec_lt most_searched (variables s))
   where
-    unfit : (N P : ℕ) → alone_finding s ≡ Fault N P → RefusedWhen s (refused N P)
+    unfit : (N P : ℕ) → alone_finding s ≡ fault N P → RefusedWhen s (refused N P)
     unfit N P e =
         let n = alone_number s N P e in
         let not_valid : ValidSheet s → ⊥ = λ v. true≢false (sym (valid_alone s v) ∙ ap is_fine e) in
@@ -34,7 +33,7 @@ refused_when s budget = go (alone_finding s) refl (dec_lt most_searched (variabl
 
     go : (f : Finding) → alone_finding s ≡ f → Dec (most_searched < variables s)
         → RefusedWhen s (answer_after s budget (f then need (leb (variables s) most_searched) 26 0))
-    go Fine e (yes l) =
+    go (Ok _) e (yes l) =
         let v = alone_valid s (ap is_fine e) in
         rw (lt-leb (variables s) most_searched l) (record {
           searched = (λ z. absurd (omega (arith, z)), λ (x, h). absurd (omega (arith, l, h)));
@@ -42,7 +41,7 @@ refused_when s budget = go (alone_finding s) refl (dec_lt most_searched (variabl
           unfit = (λ z. absurd (omega (arith, z.1)), λ z. absurd (z v));
           place = λ z. refl;
         })
-    go Fine e (no l) =
+    go (Ok _) e (no l) =
         let v = alone_valid s (ap is_fine e) in
         let h : variables s ≤ most_searched = omega (arith, l) in
         rw (le-leb (variables s) most_searched h) (record {
@@ -51,4 +50,4 @@ refused_when s budget = go (alone_finding s) refl (dec_lt most_searched (variabl
           unfit = (λ z. absurd (omega (arith, z.0)), λ z. absurd (z v));
           place = λ z. refl;
         })
-    go (Fault N P) e d = unfit N P e
+    go (Err x) e d = unfit x.number x.place e

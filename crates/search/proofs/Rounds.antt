@@ -2,7 +2,6 @@
 -- Assumes nothing.
 use Prim.Native.Nat.{ℕ, ◌+◌, ◌-◌, ◌*◌, ◌/◌, ◌%◌, ◌≤◌, ◌<◌}
 use mathlib.Core.Path.{◌≡◌, refl, sym, ap, ◌∙◌}
-use mathlib.Core.Bool.{false}
 use mathlib.Core.List.{List}
 use mathlib.Core.Logic.{inl}
 use native.Mathlib.Omega.{arith}
@@ -30,19 +29,13 @@ low_clauses size masks rows c at before after fine few w down k a t =
     fine.inside c k w (a.0, omega (arith, a.1, few)) (and_l (in_row rows c k) (leb (held after at k) 1) (sym (down.low k a) ∙ t))
 
 -- where nothing is to be looked at, the node is all that counts
-pub counts_settled : (P : Problem) (table : List ℕ) (at : ℕ) (w : Work) → w.todo ≡ 0 → w.dead ≡ false → Counts P table at w → Counts P table at (at_node (node_of w))
-counts_settled P table at w z on counts k a = rw z at (counts k a)
+pub counts_settled : (P : Problem) (table : List ℕ) (at : ℕ) (w : Work) → w.todo ≡ 0 → Counts P table at w → Counts P table at (at_node (node_of w))
+counts_settled P table at w z counts k a = rw z at (counts k a)
 
 -- ---- the levels below
 
-pub below_self : (at : ℕ) (l : List ℕ) → Below at l l
-below_self at l i h = refl
-
 pub below_trans : (at : ℕ) (a b c : List ℕ) → Below at a b → Below at b c → Below at a c
 below_trans at a b c x y i h = y i h ∙ x i h
-
-pub below_less : (less at : ℕ) (a b : List ℕ) → less ≤ at → Below at a b → Below less a b
-below_less less at a b l x i h = x i (omega (arith, l, h))
 
 pub outside_below : (at : ℕ) (a b : List ℕ) → Outside at a b → Below at a b
 outside_below at a b x i h = x i (inl h)

@@ -18,7 +18,7 @@ use Rattle.judgement.specs.Scan.{sum_of, one, count_of}
 use Rattle.judgement.specs.Facts.{Among}
 use Rattle.search.specs.Node.{has}
 use Rattle.search.specs.Tables.{in_row}
-use Rattle.search.specs.Counts.{held, Outside, CountedDown}
+use Rattle.search.specs.Counts.{held, Wrote, CountedDown}
 use Rattle.search.proofs.Sets.{digits, has_empty}
 use Rattle.search.proofs.Masks.{has_or, has_and}
 
@@ -230,15 +230,6 @@ cell table at p j = get_or table (at + 64 * p + j) 0
 abbrev pub Kept : ℕ → List ℕ → List ℕ → ℕ → Type 0
 Kept at before now i = (x : ℕ) → ((p j : ℕ) → p ≤ 4 → j < i → x ≡ at + 64 * p + j → ⊥) → get_or now x 0 ≡ get_or before x 0
 
--- word i of each plane is written
-pub record Wrote (at i : ℕ) (now after : List ℕ) (a b c d e : ℕ) : Type 0 where
-  pub first : cell after at 0 i ≡ a
-  pub second : cell after at 1 i ≡ b
-  pub third : cell after at 2 i ≡ c
-  pub fourth : cell after at 3 i ≡ d
-  pub fifth : cell after at 4 i ≡ e
-  pub rest : (x : ℕ) → ((p : ℕ) → p ≤ 4 → x ≡ at + 64 * p + i → ⊥) → get_or after x 0 ≡ get_or now x 0
-
 pub wrote_four : (l : List ℕ) (at i w x y z a b c d : ℕ) → at + 320 ≤ length l → i < 64
     → w ≡ at + i → x ≡ at + 64 + i → y ≡ at + 128 + i → z ≡ at + 192 + i
     → Wrote at i l (set (set (set (set l w a) x b) y c) z d) a b c d (cell l at 4 i)
@@ -299,9 +290,6 @@ abbrev pub Done : (ℕ → ℕ → ℕ → ℕ → ℕ → ℕ → Type 0) → �
 Done P at before now i =
     ((j : ℕ) → j < i → P j (cell now at 0 j) (cell now at 1 j) (cell now at 2 j) (cell now at 3 j) (cell now at 4 j)) × Kept at before now i
 
-pub done_none : (P : ℕ → ℕ → ℕ → ℕ → ℕ → ℕ → Type 0) (at : ℕ) (l : List ℕ) → Done P at l l 0
-done_none P at l = ((λ j h. absurd (omega (arith, h))), λ x h. refl)
-
 pub done_more : (P : ℕ → ℕ → ℕ → ℕ → ℕ → ℕ → Type 0) (at i : ℕ) (before now after : List ℕ) (a b c d e : ℕ) → i < 64
     → Done P at before now i → Wrote at i now after a b c d e → P i a b c d e → Done P at before after (i + 1)
 done_more P at i before now after a b c d e m old w new = (each, kept)
@@ -352,36 +340,24 @@ More rows n before j a b c d e = (v : ℕ) → slice a b c d v ≡ (slice_at bef
 abbrev pub Same : ℕ → List ℕ → ℕ → ℕ → ℕ → ℕ → ℕ → ℕ → Type 0
 Same at before j a b c d e = (v : ℕ) → slice a b c d v ≡ slice_at before at j v
 
-pub less_more : (rows before now : List ℕ) (n at i r p q s t : ℕ) → length now ≡ 20800 → at + 320 ≤ 20800 → i < 64
-    → r ≡ row_word rows n i → p ≡ get_or now (at + i) 0 → q ≡ get_or now (at + 64 + i) 0 → s ≡ get_or now (at + 128 + i) 0 → t ≡ get_or now (at + 192 + i) 0
+pub less_more : (rows before now middle : List ℕ) (n at i r p q s t : ℕ) → length middle ≡ 20800 → at + 320 ≤ 20800 → i < 64
+    → r ≡ row_word rows n i → p ≡ cell now at 0 i → q ≡ cell now at 1 i → s ≡ cell now at 2 i → t ≡ cell now at 3 i
+    → Wrote at i now middle (less0 r p) (less1 r p q) (less2 r p q s) (less3 r p q s t) (get_or now (at + 256 + i) 0)
     → Done (Less rows n at before) at before now i
-    → Done (Less rows n at before) at before
-    (set (set (set (set (set now (at + i) (less0 r p)) (at + 64 + i) (less1 r p q)) (at + 128 + i) (less2 r p q s)) (at + 192 + i) (less3 r p q s t))
-    (at + 256 + i) (low r p q s t)) (i + 1)
-less_more rows before now n at i r p q s t size room m er ep eq es et old =
+    → Done (Less rows n at before) at before (set middle (at + 256 + i) (low r p q s t)) (i + 1)
+less_more rows before now middle n at i r p q s t size room m er ep eq es et wrote old =
     done_more (Less rows n at before) at i before now _ (less0 r p) (less1 r p q) (less2 r p q s) (less3 r p q s t) (low r p q s t) m old
-    (wrote_five now four at i (at + 256 + i) (less0 r p) (less1 r p q) (less2 r p q s) (less3 r p q s t) _ (low r p q s t)
-    long m refl
-    (wrote_four now at i (at + i) (at + 64 + i) (at + 128 + i) (at + 192 + i) (less0 r p) (less1 r p q) (less2 r p q s) (less3 r p q s t)
-    (rw size room) m refl refl refl refl))
-    word
-  where
-    four : List ℕ
-    four = set (set (set (set now (at + i) (less0 r p)) (at + 64 + i) (less1 r p q)) (at + 128 + i) (less2 r p q s)) (at + 192 + i) (less3 r p q s t)
-
-    long : at + 320 ≤ length four
-    long = simp length-set (rw size room)
-
-    word : Less rows n at before i (less0 r p) (less1 r p q) (less2 r p q s) (less3 r p q s t) (low r p q s t)
-    word v =
-        let e = same_slice v (old_cell at i before now 0 (at + i) m (omega arith) old.1 (omega arith) ep)
-        (old_cell at i before now 1 (at + 64 + i) m (omega arith) old.1 (omega arith) eq)
-        (old_cell at i before now 2 (at + 128 + i) m (omega arith) old.1 (omega arith) es)
-        (old_cell at i before now 3 (at + 192 + i) m (omega arith) old.1 (omega arith) et) in
-        let f = ap (λ (x : ℕ). has x v) er in (
-          less_word r p q s t v ∙ ap₂ (λ (x : ℕ) (b : Bool). (x + 16 - one b) % 16) e f,
-          low_word r p q s t v ∙ ap (λ (b : Bool). b && leb (slice (less0 r p) (less1 r p q) (less2 r p q s) (less3 r p q s t) v) 1) f,
-        )
+    (wrote_five now middle at i (at + 256 + i) (less0 r p) (less1 r p q) (less2 r p q s) (less3 r p q s t) _ (low r p q s t)
+    (rw size room) m refl wrote)
+    (λ v.
+    let e = same_slice v (old_cell at i before now 0 _ m (omega arith) old.1 refl ep)
+    (old_cell at i before now 1 _ m (omega arith) old.1 refl eq)
+    (old_cell at i before now 2 _ m (omega arith) old.1 refl es)
+    (old_cell at i before now 3 _ m (omega arith) old.1 refl et) in
+    let f = ap (λ (x : ℕ). has x v) er in (
+      less_word r p q s t v ∙ ap₂ (λ (x : ℕ) (b : Bool). (x + 16 - one b) % 16) e f,
+      low_word r p q s t v ∙ ap (λ (b : Bool). b && leb (slice (less0 r p) (less1 r p q) (less2 r p q s) (less3 r p q s t) v) 1) f,
+    ))
 
 pub less_all : (rows before now : List ℕ) (n at words i : ℕ) → words ≤ 64 → words ≤ i → i ≤ words → Done (Less rows n at before) at before now i
     → CountedDown rows n (64 * words) at before now
@@ -394,55 +370,28 @@ less_all rows before now n at words i m l u old = record {
   ]);
 }
 
-pub more_more : (rows before now : List ℕ) (n i r p q s t : ℕ) → length now ≡ 20800 → i < 64
-    → r ≡ row_word rows n i → p ≡ get_or now i 0 → q ≡ get_or now (64 + i) 0 → s ≡ get_or now (128 + i) 0 → t ≡ get_or now (192 + i) 0
-    → Done (More rows n before) 0 before now i
-    → Done (More rows n before) 0 before
-    (set (set (set (set now i (more0 r p)) (64 + i) (more1 r p q)) (128 + i) (more2 r p q s)) (192 + i) (more3 r p q s t)) (i + 1)
-more_more rows before now n i r p q s t size m er ep eq es et old =
-    done_more (More rows n before) 0 i before now _ (more0 r p) (more1 r p q) (more2 r p q s) (more3 r p q s t) _ m old
-    (wrote_four now 0 i i (64 + i) (128 + i) (192 + i) (more0 r p) (more1 r p q) (more2 r p q s) (more3 r p q s t)
-    (rw size (omega arith)) m (omega arith) (omega arith) (omega arith) (omega arith))
-    word
+pub more_more : (rows before now after : List ℕ) (n i r p q s t : ℕ) → i < 64
+    → r ≡ row_word rows n i → p ≡ cell now 0 0 i → q ≡ cell now 0 1 i → s ≡ cell now 0 2 i → t ≡ cell now 0 3 i
+    → Wrote 0 i now after (more0 r p) (more1 r p q) (more2 r p q s) (more3 r p q s t) (get_or now (0 + 256 + i) 0)
+    → Done (More rows n before) 0 before now i → Done (More rows n before) 0 before after (i + 1)
+more_more rows before now after n i r p q s t m er ep eq es et wrote old =
+    done_more (More rows n before) 0 i before now _ (more0 r p) (more1 r p q) (more2 r p q s) (more3 r p q s t) _ m old wrote (λ v.
+    let e = same_slice v (old_cell 0 i before now 0 _ m (omega arith) old.1 refl ep)
+    (old_cell 0 i before now 1 _ m (omega arith) old.1 refl eq)
+    (old_cell 0 i before now 2 _ m (omega arith) old.1 refl es)
+    (old_cell 0 i before now 3 _ m (omega arith) old.1 refl et) in
+    more_word r p q s t v ∙ ap₂ (λ (x : ℕ) (b : Bool). (x + one b) % 16) e (ap (λ (x : ℕ). has x v) er))
+
+pub same_more : (before now after : List ℕ) (at i p q s t e : ℕ) → i < 64
+    → p ≡ cell now at 0 i → q ≡ cell now at 1 i → s ≡ cell now at 2 i → t ≡ cell now at 3 i
+    → Wrote (at + 320) i now after p q s t e
+    → Done (Same at before) (at + 320) before now i → Done (Same at before) (at + 320) before after (i + 1)
+same_more before now after at i p q s t e m ep eq es et wrote old =
+    done_more (Same at before) (at + 320) i before now _ p q s t e m old wrote
+    (λ v. same_slice v (low_cell 0 (omega arith) ep) (low_cell 1 (omega arith) eq) (low_cell 2 (omega arith) es) (low_cell 3 (omega arith) et))
   where
-    word : (v : ℕ) → slice (more0 r p) (more1 r p q) (more2 r p q s) (more3 r p q s t) v
-        ≡ (slice_at before 0 i v + one (has (row_word rows n i) v)) % 16
-    word v =
-        let e = same_slice v (old_cell 0 i before now 0 i m (omega arith) old.1 (omega arith) ep)
-        (old_cell 0 i before now 1 (64 + i) m (omega arith) old.1 (omega arith) eq)
-        (old_cell 0 i before now 2 (128 + i) m (omega arith) old.1 (omega arith) es)
-        (old_cell 0 i before now 3 (192 + i) m (omega arith) old.1 (omega arith) et) in
-        more_word r p q s t v ∙ ap₂ (λ (x : ℕ) (b : Bool). (x + one b) % 16) e (ap (λ (x : ℕ). has x v) er)
-
-pub more_all : (rows before now : List ℕ) (n words i : ℕ) → words ≤ i → Done (More rows n before) 0 before now i
-    → (k : ℕ) → Among (64 * words) k → held now 0 k ≡ (held before 0 k + one (in_row rows n k)) % 16
-more_all rows before now n words i l old k w =
-    old.0 ((k - 1) / 64) (omega (arith, w.0, w.1, l)) ((k - 1) % 64 + 1)
-
-pub same_more : (before now : List ℕ) (at i p q s t : ℕ) → length now ≡ 20800 → at + 640 ≤ 20800 → i < 64
-    → p ≡ get_or now (at + i) 0 → q ≡ get_or now (at + 64 + i) 0 → s ≡ get_or now (at + 128 + i) 0 → t ≡ get_or now (at + 192 + i) 0
-    → Done (Same at before) (at + 320) before now i
-    → Done (Same at before) (at + 320) before
-    (set (set (set (set now (at + 320 + i) p) (at + 384 + i) q) (at + 448 + i) s) (at + 512 + i) t) (i + 1)
-same_more before now at i p q s t size room m ep eq es et old =
-    done_more (Same at before) (at + 320) i before now _ p q s t _ m old
-    (wrote_four now (at + 320) i (at + 320 + i) (at + 384 + i) (at + 448 + i) (at + 512 + i) p q s t
-    (rw size (omega (arith, room))) m (omega arith) (omega arith) (omega arith) (omega arith))
-    (λ v. same_slice v (low_cell 0 (at + i) (omega arith) (omega arith) ep) (low_cell 1 (at + 64 + i) (omega arith) (omega arith) eq)
-    (low_cell 2 (at + 128 + i) (omega arith) (omega arith) es) (low_cell 3 (at + 192 + i) (omega arith) (omega arith) et))
-  where
-    low_cell : (p x : ℕ) {y : ℕ} → p ≤ 3 → x ≡ at + 64 * p + i → y ≡ get_or now x 0 → y ≡ cell before at p i
-    low_cell p x l e f = f ∙ ap (λ (k : ℕ). get_or now k 0) e ∙ old.1 (at + 64 * p + i) (λ q j s t r. omega (arith, r, m, l))
-
-pub same_all : (before now : List ℕ) (at words i : ℕ) → words ≤ 64 → words ≤ i → i ≤ words → Done (Same at before) (at + 320) before now i
-    → ((k : ℕ) → Among (64 * words) k → held now (at + 320) k ≡ held before at k) × Outside (at + 320) before now
-same_all before now at words i m l u old = (
-  (λ k w. old.0 ((k - 1) / 64) (omega (arith, w.0, w.1, l)) ((k - 1) % 64 + 1)),
-  λ x h. old.1 x (λ p j s t e. elim h [
-    | inl g ↦ omega (arith, g, e)
-    | inr g ↦ omega (arith, g, e, s, t, u, m)
-  ]),
-)
+    low_cell : (p : ℕ) {y : ℕ} → p ≤ 3 → y ≡ cell now at p i → y ≡ cell before at p i
+    low_cell p l f = f ∙ old.1 (at + 64 * p + i) (λ q j s t r. omega (arith, r, m, l))
 
 -- ---- all rows
 
@@ -461,12 +410,14 @@ counted_none rows l words z k w = same_four number (none 0) (none 1) (none 2) (n
     none : (p : ℕ) → has (cell l 0 p ((k - 1) / 64)) ((k - 1) % 64 + 1) ≡ false
     none p = ap (λ (x : ℕ). has x ((k - 1) % 64 + 1)) (z (0 + 64 * p + (k - 1) / 64)) ∙ has_empty ((k - 1) % 64 + 1)
 
-pub counted_more : (rows now after : List ℕ) (words c : ℕ) → 1 ≤ c → Counted rows words now c
-    → ((k : ℕ) → Among (64 * words) k → held after 0 k ≡ (held now 0 k + one (in_row rows (c + 1) k)) % 16) → Counted rows words after (c + 1)
-counted_more rows now after words c l old new k w =
+pub counted_more : (rows now after : List ℕ) (words c : ℕ) → Counted rows words now (c + 1)
+    → ((k : ℕ) → Among (64 * words) k → held after 0 k ≡ (held now 0 k + one (in_row rows (c + 2) k)) % 16)
+    → Counted rows words after (c + 1 + 1)
+counted_more rows now after words c old new k w =
     let a = old k w in
     let b = new k w in
-    let e : leb 2 (c + 1) && in_row rows (c + 1) k ≡ in_row rows (c + 1) k = rw (le-leb 2 (c + 1) (omega (arith, l))) in
+    let e : leb 2 (c + 2) && in_row rows (c + 2) k ≡ in_row rows (c + 2) k = rw (le-leb 2 (c + 2) (omega arith)) in
     let f = ap one e in
-    let g = count_next (λ d. leb 2 d && in_row rows d k) c in
-    omega (arith, a, b, f, g)
+    let two : c + 1 + 1 ≡ c + 2 = omega arith in
+    let g = rw two at (count_next (λ d. leb 2 d && in_row rows d k) (c + 1)) in
+    rw two (omega (arith, a, b, f, g))

@@ -5,6 +5,7 @@ use mathlib.Core.Path.{◌≡◌, refl, sym, ap, ◌∙◌}
 use mathlib.Core.Bool.{Bool, true, false, not, cond, ◌&&◌, ◌||◌}
 use mathlib.Core.Logic.{◌⊎◌, inl, inr}
 use native.Mathlib.Omega.{arith}
+use Rattle.std.specs.Prelude.{Some}
 use lib.Dec.{eqb}
 use lib.Bits.{bit_and, bit_or, and_le_l}
 use lib.Count.{count_trailing_zeros}
@@ -177,16 +178,16 @@ module _ (n a b : ℕ) (small : n ≤ 64) (fine : FineClause n a b) (p : Node) (
           back : (k : ℕ) → k + 1 - 1 ≡ k
           back k = omega arith
 
-      pub rest_positive : (bit_and rest a ≡ 0 → ⊥) → (todo : ℕ) (dead : Bool)
-          → Looked n (clause_of a b) (record { trues = p.trues; falses = p.falses; todo = todo; dead = dead })
-          (record { trues = bit_or p.trues rest; falses = p.falses; todo = bit_or todo rest; dead = dead })
-      rest_positive nz todo dead = is_unit (positive v) (unit (positive v) (rw (is_positive_lem v, variable_positive v) (in_a nz)) (variable_positive v))
+      pub rest_positive : (bit_and rest a ≡ 0 → ⊥) → (todo : ℕ)
+          → Looked n (clause_of a b) (record { trues = p.trues; falses = p.falses; todo = todo })
+          (Some (record { trues = bit_or p.trues rest; falses = p.falses; todo = bit_or todo rest }))
+      rest_positive nz todo = is_unit (positive v) (unit (positive v) (rw (is_positive_lem v, variable_positive v) (in_a nz)) (variable_positive v))
           (rw (settle_positive p (positive v) (is_positive_lem v), variable_positive v, added p.trues, added todo))
 
-      pub rest_negative : bit_and rest a ≡ 0 → (todo : ℕ) (dead : Bool)
-          → Looked n (clause_of a b) (record { trues = p.trues; falses = p.falses; todo = todo; dead = dead })
-          (record { trues = p.trues; falses = bit_or p.falses rest; todo = bit_or todo rest; dead = dead })
-      rest_negative z todo dead = is_unit (negative v) (unit (negative v) (rw (is_negative v, variable_negative v) (in_b z)) (variable_negative v))
+      pub rest_negative : bit_and rest a ≡ 0 → (todo : ℕ)
+          → Looked n (clause_of a b) (record { trues = p.trues; falses = p.falses; todo = todo })
+          (Some (record { trues = p.trues; falses = bit_or p.falses rest; todo = bit_or todo rest }))
+      rest_negative z todo = is_unit (negative v) (unit (negative v) (rw (is_negative v, variable_negative v) (in_b z)) (variable_negative v))
           (rw (settle_negative p (negative v) (is_negative v), variable_negative v, added p.falses, added todo))
 
 -- ---- one is left: its variable is added to the true ones where it stands in a, else to the false ones
@@ -195,9 +196,9 @@ module _ (n a b rest : ℕ) (w : Work) (small : n ≤ 64) (fine : FineClause n a
     (some : 1 ≤ rest) (alone : bit_and rest (rest - 1) ≡ 0) (free : bit_and rest (bit_or w.trues w.falses) ≡ 0) where
   pub rest_either : (t f : ℕ) → ((1 ≤ bit_and rest a) × (t ≡ bit_or w.trues rest) × (f ≡ w.falses))
       ⊎ ((bit_and rest a ≡ 0) × (t ≡ w.trues) × (f ≡ bit_or w.falses rest))
-      → Looked n (clause_of a b) w (record { trues = t; falses = f; todo = bit_or w.todo rest; dead = w.dead })
+      → Looked n (clause_of a b) w (Some (record { trues = t; falses = f; todo = bit_or w.todo rest }))
   rest_either t f (inl (nz, t-is, f-is)) =
       rw (t-is, f-is)
-      (rest_positive n a b small fine (node_of w) rest word is-rest some alone free (λ e. omega (arith, e, nz)) w.todo w.dead)
+      (rest_positive n a b small fine (node_of w) rest word is-rest some alone free (λ e. omega (arith, e, nz)) w.todo)
   rest_either t f (inr (z, t-is, f-is)) =
-      rw (t-is, f-is) (rest_negative n a b small fine (node_of w) rest word is-rest some alone free z w.todo w.dead)
+      rw (t-is, f-is) (rest_negative n a b small fine (node_of w) rest word is-rest some alone free z w.todo)

@@ -5,6 +5,7 @@ use mathlib.Core.Path.{◌≡◌, sym, ap, ap₂, ◌∙◌}
 use mathlib.Core.Bool.{Bool, true, false, not, cond, ◌&&◌, ◌||◌}
 use mathlib.Core.List.{List}
 use mathlib.Core.Logic.{◌⊎◌, inl, inr}
+use Rattle.std.specs.Prelude.{Option, Some, None}
 use native.Mathlib.Omega.{arith}
 use native.Mathlib.Decide.{dec_lt, ℕ_discrete}
 use lib.Dec.{eqb, leb, ltb}
@@ -16,15 +17,17 @@ use Rattle.judgement.specs.Meaning.{variable_of, is_positive}
 use Rattle.judgement.specs.Facts.{Among}
 use Rattle.judgement.proofs.Laws.Scan.{clash, and_i, and_l, and_r, or_l, or_r, or_e}
 use Rattle.search.specs.declared.Size.{Size}
+use Rattle.search.specs.declared.tables.Tables.{Tables}
 use Rattle.search.specs.declared.Work.{Work}
 use Rattle.search.specs.Node.{has}
 use Rattle.search.specs.Tables.{clause_of, positives, negatives, table_problem, FineClause, FineMasks}
-use Rattle.search.specs.Work.{Looked, Keeps, nothing, in_word, Onto}
+use Rattle.search.specs.Stated.{stated}
+use Rattle.search.specs.Work.{Looked, Keeps, Leads, nothing, in_word}
 use Rattle.search.specs.Counts.{plane, words_for, LowInside}
 use Rattle.search.proofs.Sets.{has_empty}
 use Rattle.search.proofs.Masks.{has_and, lowest_in, lowest_small, has_rest}
 use Rattle.search.proofs.Nodes.{Bounded}
-use Rattle.search.proofs.Looking.{keeps_look, keeps_more, keeps_less, keeps_dead, keeps_self, keeps_then, onto_self, onto_trans, onto_look}
+use Rattle.search.proofs.Looking.{keeps_look, keeps_more, keeps_less, keeps_dead, keeps_self, keeps_then, leads_self, leads_then, leads_look}
 
 -- clauses of tables in form speak of variables 1 to n alone
 pub tables_bounded : (size : Size) (costs masks : List ℕ) → FineMasks size masks → Bounded (table_problem size costs masks)
@@ -34,66 +37,65 @@ tables_bounded size costs masks fine k w c e = go (is_positive c) e
     go true e = (fine.each k w).positives (variable_of c) e
     go false e = (fine.each k w).negatives (variable_of c) e
 
+pub stated_bounded : (t : Tables) → Bounded (stated t)
+stated_bounded t = tables_bounded t.size t.costs t.masks t.fine.clauses
+
 -- what the code says of the clause with the masks a and b
-abbrev pub Told : ℕ → ℕ → Work → Work → Type 0
+abbrev pub Told : ℕ → ℕ → Work → Option Work → Type 0
 Told a b w r = (n : ℕ) → n ≤ 64 → FineClause n a b → Looked n (clause_of a b) w r
 
 -- ---- one clause of the tables
 
-module _ (size : Size) (masks : List ℕ) (fine : FineMasks size masks) (j : ℕ) (among : j < size.clauses) (w r : Work)
-    (told : Told (get_or masks (2 * j) 0) (get_or masks (2 * j + 1) 0) w r) where
-  here : Among size.clauses (j + 1)
+module _ (t : Tables) (j : ℕ) (among : j < t.size.clauses) (w : Work) (r : Option Work)
+    (told : Told (get_or t.masks (2 * j) 0) (get_or t.masks (2 * j + 1) 0) w r) where
+  here : Among t.size.clauses (j + 1)
   here = (omega arith, omega (arith, among))
 
-  looked : Looked size.variables (clause_of (positives masks (j + 1)) (negatives masks (j + 1))) w r
+  looked : Looked t.size.variables (clause_of (positives t.masks (j + 1)) (negatives t.masks (j + 1))) w r
   looked =
       let e : j + 1 - 1 ≡ j = omega arith in
-      rw e (told size.variables fine.variables (rw e at (fine.each (j + 1) here)))
+      rw e (told t.size.variables t.fine.clauses.variables (rw e at (t.fine.clauses.each (j + 1) here)))
 
-  pub told_onto : Onto w r
-  told_onto = onto_look size.variables _ w r (λ c i. tables_bounded size masks masks fine (j + 1) here c i) looked
+  pub told_leads : Leads w r
+  told_leads = leads_look t.size.variables _ w r (λ c i. stated_bounded t (j + 1) here c i) looked
 
-  pub told_keeps : (costs : List ℕ) (R R' : ℕ → Bool) → w.dead ≡ false
-      → ((k : ℕ) → Among size.clauses k → R k ≡ true → (k ≡ j + 1) ⊎ (R' k ≡ true)) → Keeps (table_problem size costs masks) w R r R'
-  told_keeps costs R R' on less = keeps_look (table_problem size costs masks) (tables_bounded size costs masks fine) w r R R' (j + 1) here on looked less
+  pub told_keeps : (R R' : ℕ → Bool) → ((k : ℕ) → Among t.size.clauses k → R k ≡ true → (k ≡ j + 1) ⊎ (R' k ≡ true))
+      → Keeps (stated t) w R r R'
+  told_keeps R R' less = keeps_look (stated t) (stated_bounded t) w r R R' (j + 1) here looked less
 
 -- ---- all clauses, of which those up to k have been looked at
 
-abbrev pub AllUpTo : Size → List ℕ → Work → ℕ → Work → Type 0
-AllUpTo size masks w k u = Onto w u × ((costs : List ℕ) → Keeps (table_problem size costs masks) w (λ j. true) u (ltb k))
+abbrev pub AllUpTo : Tables → Work → ℕ → Option Work → Type 0
+AllUpTo t w k r = Leads w r × Keeps (stated t) w (λ j. true) r (ltb k)
 
-module _ (size : Size) (masks : List ℕ) where
-  pub all_first : (w : Work) → w.dead ≡ false → AllUpTo size masks w 0 w
-  all_first w on = (
-    onto_self w,
-    λ costs.
-        keeps_less (table_problem size costs masks) w w (λ j. true) (λ j. true) (ltb 0) (keeps_self (table_problem size costs masks) w (λ j. true) on)
-        (λ j a t. lt-ltb 0 j a.0),
+module _ (t : Tables) where
+  pub all_first : (w : Work) → AllUpTo t w 0 (Some w)
+  all_first w = (
+    leads_self w,
+    keeps_less (stated t) w (Some w) (λ j. true) (λ j. true) (ltb 0) (keeps_self (stated t) w (λ j. true)) (λ j a t. lt-ltb 0 j a.0),
   )
 
-  pub all_next : FineMasks size masks → (w u r : Work) (k : ℕ) → k < size.clauses → u.dead ≡ false
-      → Told (get_or masks (2 * k) 0) (get_or masks (2 * k + 1) 0) u r → AllUpTo size masks w k u → AllUpTo size masks w (k + 1) r
-  all_next fine w u r k l on told (onto, keeps) = (
-    onto_trans w u r onto (told_onto size masks fine k l u r told),
-    λ costs. keeps_then (table_problem size costs masks) w u r (λ j. true) (ltb k) (ltb (k + 1)) on (keeps costs)
-        (told_keeps size masks fine k l u r told costs (ltb k) (ltb (k + 1)) on less),
+  pub all_next : (w u : Work) (r : Option Work) (k : ℕ) → k < t.size.clauses
+      → Told (get_or t.masks (2 * k) 0) (get_or t.masks (2 * k + 1) 0) u r → AllUpTo t w k (Some u) → AllUpTo t w (k + 1) r
+  all_next w u r k l told (leads, keeps) = (
+    leads_then w u r leads (told_leads t k l u r told),
+    keeps_then (stated t) w u r (λ j. true) (ltb k) (ltb (k + 1)) keeps (told_keeps t k l u r told (ltb k) (ltb (k + 1)) less),
   )
     where
-      less : (j : ℕ) → Among size.clauses j → ltb k j ≡ true → (j ≡ k + 1) ⊎ (ltb (k + 1) j ≡ true)
-      less j a t = elim (ℕ_discrete j (k + 1)) [
+      less : (j : ℕ) → Among t.size.clauses j → ltb k j ≡ true → (j ≡ k + 1) ⊎ (ltb (k + 1) j ≡ true)
+      less j a b = elim (ℕ_discrete j (k + 1)) [
         | yes e ↦ inl e
-        | no e ↦ inr (lt-ltb (k + 1) j (omega (arith, e, ltb-true k j t)))
+        | no e ↦ inr (lt-ltb (k + 1) j (omega (arith, e, ltb-true k j b)))
       ]
 
   -- a clause is false, or all have been looked at
-  pub all_last : (w r : Work) (k : ℕ) → (r.dead ≡ true) ⊎ (size.clauses ≤ k) → AllUpTo size masks w k r
-      → Onto w r × ((costs : List ℕ) → Keeps (table_problem size costs masks) w (λ j. true) r nothing)
-  all_last w r k end (onto, keeps) = (
-    onto,
-    λ costs. elim end [
-      | inl d ↦ keeps_dead (table_problem size costs masks) w r (λ j. true) (ltb k) nothing d (keeps costs)
-      | inr l ↦ keeps_less (table_problem size costs masks) w r (λ j. true) (ltb k) nothing (keeps costs)
-          (λ j a t. absurd (omega (arith, a.1, l, ltb-true k j t)))
+  pub all_last : (w : Work) (r : Option Work) (k : ℕ) → (r ≡ None) ⊎ (t.size.clauses ≤ k) → AllUpTo t w k r
+      → Leads w r × Keeps (stated t) w (λ j. true) r nothing
+  all_last w r k end (leads, keeps) = (
+    leads,
+    elim end [
+      | inl d ↦ keeps_dead (stated t) w r (λ j. true) (ltb k) nothing d keeps
+      | inr l ↦ keeps_less (stated t) w r (λ j. true) (ltb k) nothing keeps (λ j a b. absurd (omega (arith, a.1, l, ltb-true k j b)))
     ],
   )
 
@@ -126,33 +128,32 @@ module _ (i x : ℕ) (some : 1 ≤ x) (word : x < 2 ^ 64) where
 pub rest_part : (x j : ℕ) → has (bit_and x (x - 1)) j ≡ true → has x j ≡ true
 rest_part x j t = and_l (has x j) (has (x - 1) j) (sym (has_and x (x - 1) j) ∙ t)
 
--- from w, where the clauses of `bits` were to be looked at, to u, where those of x are
-abbrev pub WordDownTo : Size → List ℕ → ℕ → ℕ → Work → ℕ → Work → Type 0
-WordDownTo size masks i bits w x u = Onto w u × ((costs : List ℕ) (R : ℕ → Bool)
-    → Keeps (table_problem size costs masks) w (λ k. in_word i bits k || R k) u (λ k. in_word i x k || R k))
+-- from w, where the clauses of `bits` were to be looked at, to r, where those of x are
+abbrev pub WordDownTo : Tables → ℕ → ℕ → Work → ℕ → Option Work → Type 0
+WordDownTo t i bits w x r = Leads w r × ((R : ℕ → Bool) → Keeps (stated t) w (λ k. in_word i bits k || R k) r (λ k. in_word i x k || R k))
 
-module _ (size : Size) (masks : List ℕ) (i bits : ℕ) where
-  pub word_first : (w : Work) → w.dead ≡ false → WordDownTo size masks i bits w bits w
-  word_first w on = (onto_self w, λ costs R. keeps_self (table_problem size costs masks) w (λ k. in_word i bits k || R k) on)
+module _ (t : Tables) (i bits : ℕ) where
+  pub word_first : (w : Work) → WordDownTo t i bits w bits (Some w)
+  word_first w = (leads_self w, λ R. keeps_self (stated t) w (λ k. in_word i bits k || R k))
 
-  pub word_next : FineMasks size masks → (w u r : Work) (x : ℕ) → 1 ≤ x → x < 2 ^ 64 → 64 * i + count_trailing_zeros 64 x < size.clauses → u.dead ≡ false
-      → Told (get_or masks (2 * (64 * i + count_trailing_zeros 64 x)) 0) (get_or masks (2 * (64 * i + count_trailing_zeros 64 x) + 1) 0) u r
-      → WordDownTo size masks i bits w x u → WordDownTo size masks i bits w (bit_and x (x - 1)) r
-  word_next fine w u r x some word l on told (onto, keeps) = (
-    onto_trans w u r onto (told_onto size masks fine (64 * i + count_trailing_zeros 64 x) l u r told),
-    λ costs R. keeps_then (table_problem size costs masks) w u r (λ k. in_word i bits k || R k) (λ k. in_word i x k || R k) (λ k. in_word i (bit_and x (x - 1)) k || R k)
-        on (keeps costs R) (told_keeps size masks fine (64 * i + count_trailing_zeros 64 x) l u r told costs (λ k. in_word i x k || R k)
-        (λ k. in_word i (bit_and x (x - 1)) k || R k) on (word_less i x some word R size.clauses)),
+  pub word_next : (w u : Work) (r : Option Work) (x : ℕ) → 1 ≤ x → x < 2 ^ 64 → 64 * i + count_trailing_zeros 64 x < t.size.clauses
+      → Told (get_or t.masks (2 * (64 * i + count_trailing_zeros 64 x)) 0) (get_or t.masks (2 * (64 * i + count_trailing_zeros 64 x) + 1) 0) u r
+      → WordDownTo t i bits w x (Some u) → WordDownTo t i bits w (bit_and x (x - 1)) r
+  word_next w u r x some word l told (leads, keeps) = (
+    leads_then w u r leads (told_leads t (64 * i + count_trailing_zeros 64 x) l u r told),
+    λ R. keeps_then (stated t) w u r (λ k. in_word i bits k || R k) (λ k. in_word i x k || R k) (λ k. in_word i (bit_and x (x - 1)) k || R k)
+        (keeps R) (told_keeps t (64 * i + count_trailing_zeros 64 x) l u r told (λ k. in_word i x k || R k)
+        (λ k. in_word i (bit_and x (x - 1)) k || R k) (word_less i x some word R t.size.clauses)),
   )
 
-  pub word_last : (w r : Work) (x : ℕ) → (r.dead ≡ true) ⊎ (x ≡ 0) → WordDownTo size masks i bits w x r
-      → Onto w r × ((costs : List ℕ) (R : ℕ → Bool) → Keeps (table_problem size costs masks) w (λ k. in_word i bits k || R k) r R)
-  word_last w r x end (onto, keeps) = (
-    onto,
-    λ costs R. elim end [
-      | inl d ↦ keeps_dead (table_problem size costs masks) w r (λ k. in_word i bits k || R k) (λ k. in_word i x k || R k) R d (keeps costs R)
-      | inr z ↦ keeps_less (table_problem size costs masks) w r (λ k. in_word i bits k || R k) (λ k. in_word i x k || R k) R (keeps costs R)
-          (λ k a t. elim (or_e (in_word i x k) (R k) t) [
+  pub word_last : (w : Work) (r : Option Work) (x : ℕ) → (r ≡ None) ⊎ (x ≡ 0) → WordDownTo t i bits w x r
+      → Leads w r × ((R : ℕ → Bool) → Keeps (stated t) w (λ k. in_word i bits k || R k) r R)
+  word_last w r x end (leads, keeps) = (
+    leads,
+    λ R. elim end [
+      | inl d ↦ keeps_dead (stated t) w r (λ k. in_word i bits k || R k) (λ k. in_word i x k || R k) R d (keeps R)
+      | inr z ↦ keeps_less (stated t) w r (λ k. in_word i bits k || R k) (λ k. in_word i x k || R k) R (keeps R)
+          (λ k a b. elim (or_e (in_word i x k) (R k) b) [
             | inl q ↦ absurd (clash (rw z at (and_r (eqb ((k - 1) / 64) i) (has x ((k - 1) % 64 + 1)) q)) (has_empty ((k - 1) % 64 + 1)))
             | inr q ↦ q
           ])
@@ -194,62 +195,50 @@ module _ (table : List ℕ) (at i : ℕ) where
       let e : (64 * i + j - 1) % 64 + 1 ≡ j = omega (arith, a.0, a.1) in
       inside (64 * i + j) (omega (arith, a.0), omega (arith, a.1, l)) (rw (d, e) t)
 
--- numbers from i to j that are 0, and one more
-pub zeros_more : (table : List ℕ) (start i j : ℕ) → ((h : ℕ) → i ≤ h → h < j → get_or table (start + h) 0 ≡ 0) → get_or table (start + j) 0 ≡ 0
-    → (h : ℕ) → i ≤ h → h < j + 1 → get_or table (start + h) 0 ≡ 0
-zeros_more table start i j old new h l m = elim (ℕ_discrete h j) [
-  | yes e ↦ rw e new
-  | no d ↦ old h l (omega (arith, d, m))
-]
+-- from w, where the clauses of the last plane were to be looked at, to r, where those from word i on are
+abbrev pub LowUpTo : Tables → List ℕ → ℕ → Work → ℕ → Option Work → Type 0
+LowUpTo t table at w i r = Leads w r × Keeps (stated t) w (plane table at 4) r (from_word table at i)
 
--- from w, where the clauses of the last plane were to be looked at, to u, where those from word i on are
-abbrev pub LowUpTo : Size → List ℕ → List ℕ → ℕ → Work → ℕ → Work → Type 0
-LowUpTo size masks table at w i u =
-    Onto w u × ((costs : List ℕ) → Keeps (table_problem size costs masks) w (plane table at 4) u (from_word table at i))
-
-module _ (size : Size) (masks table : List ℕ) (at : ℕ) where
-  pub low_begins : (w : Work) → w.dead ≡ false → LowUpTo size masks table at w 0 w
-  low_begins w on = (
-    onto_self w,
-    λ costs.
-        keeps_less (table_problem size costs masks) w w (plane table at 4) (plane table at 4) (from_word table at 0)
-        (keeps_self (table_problem size costs masks) w (plane table at 4) on) (low_first table at 0 size.clauses),
+module _ (t : Tables) (table : List ℕ) (at : ℕ) where
+  pub low_begins : (w : Work) → LowUpTo t table at w 0 (Some w)
+  low_begins w = (
+    leads_self w,
+    keeps_less (stated t) w (Some w) (plane table at 4) (plane table at 4) (from_word table at 0)
+        (keeps_self (stated t) w (plane table at 4)) (low_first table at 0 t.size.clauses),
   )
 
-  pub low_goes_on : (w u r : Work) (i : ℕ) → u.dead ≡ false → Onto u r
-      → ((costs : List ℕ) (R : ℕ → Bool)
-      → Keeps (table_problem size costs masks) u (λ k. in_word i (get_or table (at + 256 + i) 0) k || R k) r R)
-      → LowUpTo size masks table at w i u → LowUpTo size masks table at w (i + 1) r
-  low_goes_on w u r i on onto' keeps' (onto, keeps) = (
-    onto_trans w u r onto onto',
-    λ costs. keeps_then (table_problem size costs masks) w u r (plane table at 4) (from_word table at i) (from_word table at (i + 1)) on (keeps costs)
-        (keeps_more (table_problem size costs masks) u r (from_word table at i)
-        (λ k. in_word i (get_or table (at + 256 + i) 0) k || from_word table at (i + 1) k) (from_word table at (i + 1)) (low_next table at i size.clauses)
-        (keeps' costs (from_word table at (i + 1)))),
+  pub low_goes_on : (w u : Work) (r : Option Work) (i : ℕ) → Leads u r
+      → ((R : ℕ → Bool) → Keeps (stated t) u (λ k. in_word i (get_or table (at + 256 + i) 0) k || R k) r R)
+      → LowUpTo t table at w i (Some u) → LowUpTo t table at w (i + 1) r
+  low_goes_on w u r i leads' keeps' (leads, keeps) = (
+    leads_then w u r leads leads',
+    keeps_then (stated t) w u r (plane table at 4) (from_word table at i) (from_word table at (i + 1)) keeps
+        (keeps_more (stated t) u r (from_word table at i)
+        (λ k. in_word i (get_or table (at + 256 + i) 0) k || from_word table at (i + 1) k) (from_word table at (i + 1))
+        (low_next table at i t.size.clauses) (keeps' (from_word table at (i + 1)))),
   )
 
   -- words that are 0 have no clause
-  pub low_skips : (w u : Work) (i r : ℕ) → ((j : ℕ) → i ≤ j → j < r → get_or table (at + 256 + j) 0 ≡ 0) → LowUpTo size masks table at w i u
-      → LowUpTo size masks table at w r u
-  low_skips w u i r none (onto, keeps) = (
-    onto,
-    λ costs.
-        keeps_less (table_problem size costs masks) w u (plane table at 4) (from_word table at i) (from_word table at r) (keeps costs) (λ k a t.
-        let l = leb-true i ((k - 1) / 64) (and_l (leb i ((k - 1) / 64)) (plane table at 4 k) t) in
-        let h = and_r (leb i ((k - 1) / 64)) (plane table at 4 k) t in
+  pub low_skips : (w u : Work) (i r : ℕ) → ((j : ℕ) → i ≤ j → j < r → get_or table (at + 256 + j) 0 ≡ 0) → LowUpTo t table at w i (Some u)
+      → LowUpTo t table at w r (Some u)
+  low_skips w u i r none (leads, keeps) = (
+    leads,
+    keeps_less (stated t) w (Some u) (plane table at 4) (from_word table at i) (from_word table at r) keeps (λ k a b.
+        let l = leb-true i ((k - 1) / 64) (and_l (leb i ((k - 1) / 64)) (plane table at 4 k) b) in
+        let h = and_r (leb i ((k - 1) / 64)) (plane table at 4 k) b in
         elim (dec_lt ((k - 1) / 64) r) [
           | yes m ↦ absurd (clash (rw (none ((k - 1) / 64) l m) at h) (has_empty ((k - 1) % 64 + 1)))
           | no m ↦ and_i (leb r ((k - 1) / 64)) (plane table at 4 k) (le-leb r ((k - 1) / 64) (omega (arith, m))) h
         ]),
   )
 
-  pub low_ends : (w r : Work) (i : ℕ) → (r.dead ≡ true) ⊎ (size.clauses ≤ 64 * i) → LowUpTo size masks table at w i r
-      → Onto w r × ((costs : List ℕ) → Keeps (table_problem size costs masks) w (plane table at 4) r nothing)
-  low_ends w r i end (onto, keeps) = (
-    onto,
-    λ costs. elim end [
-      | inl d ↦ keeps_dead (table_problem size costs masks) w r (plane table at 4) (from_word table at i) nothing d (keeps costs)
-      | inr l ↦ keeps_less (table_problem size costs masks) w r (plane table at 4) (from_word table at i) nothing (keeps costs)
-          (λ k a t. low_last table at i size.clauses k a l t)
+  pub low_ends : (w : Work) (r : Option Work) (i : ℕ) → (r ≡ None) ⊎ (t.size.clauses ≤ 64 * i) → LowUpTo t table at w i r
+      → Leads w r × Keeps (stated t) w (plane table at 4) r nothing
+  low_ends w r i end (leads, keeps) = (
+    leads,
+    elim end [
+      | inl d ↦ keeps_dead (stated t) w r (plane table at 4) (from_word table at i) nothing d keeps
+      | inr l ↦ keeps_less (stated t) w r (plane table at 4) (from_word table at i) nothing keeps
+          (λ k a b. low_last table at i t.size.clauses k a l b)
     ],
   )

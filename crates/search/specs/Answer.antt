@@ -1,9 +1,7 @@
 -- The answer of the search to a sheet s and a budget.
 -- Assumes nothing.
-use Rattle.std.specs.Prelude.{ℕ, ◌-◌, min, false, not, List, eqb, leb}
-use Rattle.judgement.specs.declared.Finding.{Finding}
-use Rattle.judgement.specs.declared.Finding.TheVariants.{Fine, Fault}
-use Rattle.judgement.specs.Finding.{need, ◌then◌}
+use Rattle.std.specs.Prelude.{ℕ, ◌-◌, min, false, not, List, eqb, leb, Ok, Err}
+use Rattle.judgement.specs.Finding.{Finding, need, ◌then◌}
 use Rattle.judgement.specs.Meaning.{none}
 use Rattle.judgement.specs.Sheet.{variables, problem_of, alone_finding}
 use Rattle.search.specs.declared.Progress.{Progress}
@@ -39,8 +37,8 @@ answered budget S = record {
 }
 
 abbrev pub answer_after : List ℕ → ℕ → Finding → Found
-answer_after s budget Fine = answered budget (searched (problem_of s) budget)
-answer_after s budget (Fault number place) = refused number place
+answer_after s budget (Ok _) = answered budget (searched (problem_of s) budget)
+answer_after s budget (Err x) = refused x.number x.place
 
 -- the answer
 unfoldable pub found : List ℕ → ℕ → Found

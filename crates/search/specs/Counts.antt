@@ -38,6 +38,15 @@ Outside at before after = (i : ℕ) → (i < at) ⊎ (at + 320 ≤ i) → get_or
 abbrev pub Below : ℕ → List ℕ → List ℕ → Type 0
 Below at before after = (i : ℕ) → i < at → get_or after i 0 ≡ get_or before i 0
 
+-- number i of each plane is written, and nothing else
+pub record Wrote (at i : ℕ) (before after : List ℕ) (a b c d e : ℕ) : Type 0 where
+  pub first : get_or after (at + 64 * 0 + i) 0 ≡ a
+  pub second : get_or after (at + 64 * 1 + i) 0 ≡ b
+  pub third : get_or after (at + 64 * 2 + i) 0 ≡ c
+  pub fourth : get_or after (at + 64 * 3 + i) 0 ≡ d
+  pub fifth : get_or after (at + 64 * 4 + i) 0 ≡ e
+  pub rest : (x : ℕ) → ((p : ℕ) → p ≤ 4 → x ≡ at + 64 * p + i → ⊥) → get_or after x 0 ≡ get_or before x 0
+
 -- one less for each clause of the row of c, and the last plane has those of them that are at 1 or 0 now
 pub record CountedDown (rows : List ℕ) (c m at : ℕ) (before after : List ℕ) : Type 0 where
   pub less : (k : ℕ) → Among m k → held after at k ≡ (held before at k + 16 - one (in_row rows c k)) % 16

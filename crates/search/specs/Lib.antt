@@ -4,5 +4,6 @@ pub mod Search
 pub mod Answer
 pub mod Promises
 pub mod Tables
+pub mod Stated
 pub mod Work
 pub mod Counts

@@ -1,7 +1,7 @@
 -- How the code forces: it settles literals in whatever order it meets them. `todo` has the variables that it has settled and whose clauses it
 -- has not yet looked at. What it comes to is the same node (`same_end` in proofs/Order.antt).
 -- Assumes nothing.
-use Rattle.std.specs.Prelude.{ℕ, ◌+◌, ◌-◌, ◌/◌, ◌%◌, ◌≤◌, ◌≡◌, Bool, true, false, not, cond, ◌&&◌, ◌⊎◌, eqb}
+use Rattle.std.specs.Prelude.{ℕ, ◌+◌, ◌-◌, ◌/◌, ◌%◌, ◌≤◌, ◌≡◌, Bool, true, false, not, cond, ◌&&◌, ◌⊎◌, eqb, Option, Some, None}
 use Rattle.std.specs.Int.Bits.{bit_and}
 use Rattle.judgement.specs.Scan.{one, count_of}
 use Rattle.judgement.specs.Meaning.{positive, negative, variable_of, Assignment, Literals, Problem, cost}
@@ -17,11 +17,7 @@ node_of w = record { trues = w.trues; falses = w.falses }
 
 -- a node, with nothing to be looked at
 abbrev pub at_node : Node → Work
-at_node p = record { trues = p.trues; falses = p.falses; todo = 0; dead = false }
-
--- a clause was found false
-abbrev pub killed : Work → Work
-killed w = record { trues = w.trues; falses = w.falses; todo = w.todo; dead = true }
+at_node p = record { trues = p.trues; falses = p.falses; todo = 0 }
 
 -- the literal c was found forced
 abbrev pub settle_work : Work → ℕ → Work
@@ -29,7 +25,6 @@ settle_work w c = record {
   trues = (settle (node_of w) c).trues;
   falses = (settle (node_of w) c).falses;
   todo = add w.todo (variable_of c);
-  dead = w.dead;
 }
 
 -- ---- one clause
@@ -44,11 +39,11 @@ pub data Quiet (q : Node) (C : Literals) : Type 0 where
 abbrev pub Pending : ℕ → Node → Literals → Type 0
 Pending todo q C = (c : ℕ) × (C c ≡ true) × (settled_false q c ≡ true) × (has todo (variable_of c) ≡ true)
 
--- what looking at the clause does
-pub data Looked (n : ℕ) (C : Literals) (w r : Work) : Type 0 where
-  is_false : falsified n (node_of w) C ≡ true → r ≡ killed w → Looked n C w r
-  is_quiet : Quiet (node_of w) C → r ≡ w → Looked n C w r
-  is_unit : (c : ℕ) → forces n (node_of w) C c ≡ true → r ≡ settle_work w c → Looked n C w r
+-- what looking at the clause does: there is nothing to go on with where it is false
+pub data Looked (n : ℕ) (C : Literals) (w : Work) (r : Option Work) : Type 0 where
+  is_false : falsified n (node_of w) C ≡ true → r ≡ None → Looked n C w r
+  is_quiet : Quiet (node_of w) C → r ≡ Some w → Looked n C w r
+  is_unit : (c : ℕ) → forces n (node_of w) C c ≡ true → r ≡ Some (settle_work w c) → Looked n C w r
 
 -- ---- all clauses
 
@@ -73,11 +68,11 @@ pub record Reached (P : Problem) (p q : Node) : Type 0 where
   pub grown : Under p q
   pub ahead : (dead P (after_forcing P p) ≡ true) ⊎ Under q (after_forcing P p)
 
--- from w, where the clauses of R are to be looked at, to r, where those of R' are
-pub record Keeps (P : Problem) (w : Work) (R : ℕ → Bool) (r : Work) (R' : ℕ → Bool) : Type 0 where
-  pub ready : Ready P w R → r.dead ≡ false → Ready P r R'
-  pub reached : (p : Node) → Reached P p (node_of w) → Reached P p (node_of r)
-  pub stops : r.dead ≡ true → (p : Node) → Reached P p (node_of w) → dead P (after_forcing P p) ≡ true
+-- from w, where the clauses of R are to be looked at, to r, where those of R' are, unless a clause was found false
+pub record Keeps (P : Problem) (w : Work) (R : ℕ → Bool) (r : Option Work) (R' : ℕ → Bool) : Type 0 where
+  pub ready : (u : Work) → r ≡ Some u → Ready P w R → Ready P u R'
+  pub reached : (u : Work) → r ≡ Some u → (p : Node) → Reached P p (node_of w) → Reached P p (node_of u)
+  pub stops : r ≡ None → (p : Node) → Reached P p (node_of w) → dead P (after_forcing P p) ≡ true
 
 -- no clause
 abbrev pub nothing : ℕ → Bool
@@ -118,26 +113,27 @@ pub record Onto (w r : Work) : Type 0 where
   pub lighter : (v : ℕ) → load r v ≤ load w v
   pub standing : (C : Literals) (c : ℕ) → stands r C c ≡ stands w C c
 
+-- and so to r, unless a clause was found false
+abbrev pub Leads : Work → Option Work → Type 0
+Leads w r = (u : Work) → r ≡ Some u → Onto w u
+
 -- the literal of v that is false, where v is settled
 abbrev pub false_literal : Work → ℕ → ℕ
 false_literal w v = cond (has w.trues v) (negative v) (positive v)
 
 -- the lowest variable of `todo` has been looked at
 abbrev pub looked_at : Work → Work
-looked_at w = record { trues = w.trues; falses = w.falses; todo = bit_and w.todo (w.todo - 1); dead = w.dead }
+looked_at w = record { trues = w.trues; falses = w.falses; todo = bit_and w.todo (w.todo - 1) }
 
 -- ---- where forcing ends
-
-abbrev pub settled_node : Settled → Node
-settled_node r = record { trues = r.trues; falses = r.falses }
 
 -- nothing is false, and nothing is forced
 pub record AllQuiet (P : Problem) (q : Node) : Type 0 where
   pub consistent : Consistent q
   pub each : (k : ℕ) → Among P.clauses k → Quiet q (P.clause k)
 
--- what forcing from p comes to, where it is given up at a node that costs no less than `best`: a node that is left anyhow; or the very
--- node after forcing
-pub record Outcome (P : Problem) (best : ℕ) (p : Node) (r : Settled) : Type 0 where
-  pub leaves : r.gone ≡ true → (dead P (after_forcing P p) ≡ true) ⊎ (best ≤ node_cost P (after_forcing P p))
-  pub stays : r.gone ≡ false → settled_node r ≡ after_forcing P p
+-- what forcing from p comes to, where it is given up at a node that costs no less than `best`: nothing, and the node is left anyhow;
+-- or the very node after forcing
+pub record Outcome (P : Problem) (best : ℕ) (p : Node) (r : Option Settled) : Type 0 where
+  pub leaves : r ≡ None → (dead P (after_forcing P p) ≡ true) ⊎ (best ≤ node_cost P (after_forcing P p))
+  pub stays : (f : Settled) → r ≡ Some f → f.node ≡ after_forcing P p

@@ -5,14 +5,15 @@ mod choose;
 mod clause;
 mod count;
 mod fill;
+mod level;
 mod propagate;
+mod tables;
 
-ghost use Rattle.std.specs.Prelude.{◌≡◌, false, List, ℕ, ◌≤◌, min};
-ghost use Rattle.judgement.specs.Finding.{is_fine};
-ghost use Rattle.search.specs.Answer.{search_finding, refused, answered, answer_after, found};
+ghost use Rattle.std.specs.Prelude.{◌≡◌, ◌+◌, ◌/◌, ◌≤◌};
+ghost use Rattle.search.specs.Answer.{search_finding, answered, found};
 ghost use Rattle.search.specs.Promises.{RefusedWhen, Promised};
 
-use judgement::{Finding, NONE};
+use judgement::{Finding, NONE, Reason, Refusal};
 
 // Refusal 26's limit on n: what fits a word.
 const MOST_SEARCHED: u32 = 64;
@@ -26,7 +27,9 @@ pub struct Node {
 
 // How far the search has come. `cost` is the best plan's and `plan` its true variables, "none" and 0 before there is one;
 // `floor` is the least cost of a node with a branch that stays untried since the budget was spent, "none" where there is none;
-// `left` is what is left of the budget; `stopped`: there is such a branch.
+// `left` is what is left of the budget; `stopped`: there is such a branch. "none" is a number, and no `Option`, as it is for `begin` and
+// `searched` and for C: what a node costs is below it, so that leaving is one comparison.
+// `stopped` stands beside the floor, as it does in `stop` and as `ended` does for C.
 #[derive(Clone, Copy)]
 pub struct Progress {
     pub cost: u64,
@@ -36,7 +39,7 @@ pub struct Progress {
     pub stopped: bool,
 }
 
-// The answer to a sheet and a budget.
+// The answer to a sheet and a budget: the C interface's seven numbers, which `RefusedWhen` and `Promised` name.
 #[derive(Clone, Copy)]
 pub struct Found {
     pub number: u32,
@@ -56,73 +59,64 @@ pub struct Size {
     pub loss: u32,
 }
 
-// Forcing under way: the node, the variables that are settled and whose clauses are still to be looked at, and whether a clause
-// was found false.
+impl Size {
+    // How many numbers have a bit for each clause, 64 to a number.
+    pub(crate) fn words(self) -> usize
+        ensures { result ≡ (self.clauses + 63) / 64 }
+    {
+        (self.clauses as usize).div_ceil(64)
+    }
+}
+
+// Forcing under way: the node, and the variables that are settled and whose clauses are still to be looked at.
 #[derive(Clone, Copy)]
 pub struct Work {
     pub trues: u64,
     pub falses: u64,
     pub todo: u64,
-    pub dead: bool,
 }
 
-// What forcing came to: a node and its cost, or nothing, where the node is left.
+// What forcing came to: a node and its cost.
 #[derive(Clone, Copy)]
 pub struct Settled {
-    pub trues: u64,
-    pub falses: u64,
+    pub node: Node,
     pub price: u64,
-    pub gone: bool,
 }
 
 // Refusals 1 to 4 of the sheet alone, then 26.
+#[tactic(auto, unfolding(crate::specs::Answer::search_finding, crate::specs::Answer::too_many))]
 fn search_finding(sheet: &[u8]) -> Finding
     ensures { result ≡ search_finding sheet.now }
 {
-    let f = sheet::alone_finding(sheet);
-    if !layout::is_fine(f) {
-        return f;
-    }
+    sheet::alone_finding(sheet)?;
     if MOST_SEARCHED < sheet::variable_count(sheet) {
-        return Finding::Fault(26, 0);
+        return Err(Reason::ManyPaddles.at(0));
     }
-    Finding::Fine
+    Ok(())
 }
 
-fn no_plan(number: u32, place: u32) -> Found
-    ensures { result ≡ refused number place }
-{
-    Found {
-        number: number,
-        place: place,
-        found: false,
-        plan: 0,
-        choices: 0,
-        ended: false,
-        floor: 0,
-    }
-}
+// The answer to a sheet that is refused: no plan, not ended, zeros.
+impl From<Refusal> for Found {
+    ghost use Rattle.std.specs.Prelude.{◌≡◌};
+    ghost use Rattle.search.specs.Answer.{refused};
 
-// The answer after a finding that is a fault.
-fn refusal(f: Finding) -> Found
-    ensures { (s : List ℕ) (budget : ℕ) → is_fine f ≡ false → result ≡ answer_after s budget f }
-{
-    match f {
-        Finding::Fine => no_plan(0, 0),
-        Finding::Fault(number, place) => no_plan(number, place),
-    }
-}
+    ghost from_gives = { λ x a. a ≡ refused x.number x.place };
 
-fn lesser(a: u64, b: u64) -> u64
-    ensures { result ≡ min a b }
-{
-    if a < b {
-        return a;
+    fn from(refusal: Refusal) -> Found {
+        Found {
+            number: refusal.number,
+            place: refusal.place,
+            found: false,
+            plan: 0,
+            choices: 0,
+            ended: false,
+            floor: 0,
+        }
     }
-    b
 }
 
 // The answer where the search came to s.
+#[tactic(auto, unfolding(judgement::specs::Meaning::none))]
 fn answer(budget: u64, s: Progress) -> Found
     requires { s.left ≤ budget }
     ensures { result ≡ answered budget s }
@@ -134,7 +128,7 @@ fn answer(budget: u64, s: Progress) -> Found
         plan: s.plan,
         choices: budget - s.left,
         ended: !s.stopped,
-        floor: lesser(s.floor, s.cost),
+        floor: s.floor.min(s.cost),
     }
 }
 
@@ -146,9 +140,8 @@ pub fn search(sheet: &[u8], budget: u64) -> Found
     ensures when { RefusedWhen sheet.now result }
     ensures promised { Promised sheet.now budget result }
 {
-    let f = search_finding(sheet);
-    if !layout::is_fine(f) {
-        return refusal(f);
+    match search_finding(sheet) {
+        Ok(()) => answer(budget, fill::search_valid(sheet, budget)),
+        Err(refusal) => Found::from(refusal),
     }
-    answer(budget, fill::search_valid(sheet, budget))
 }

@@ -1,394 +1,228 @@
+-- `search::choose::{choose, force}` meet their contracts.
+-- Assumes nothing.
 use Prim.Native.Nat.{◌+◌, ◌-◌}
-use mathlib.Core.Path.{refl, sym, ◌∙◌}
+use mathlib.Core.Path.{refl, ◌∙◌}
 use native.Mathlib.Omega.{arith}
-use Rattle.judgement.specs.Meaning.{positive, negative, variable_of}
-use Rattle.judgement.specs.Facts.{Among}
+use Rattle.judgement.specs.Meaning.{positive, negative}
 use Rattle.search.specs.Node.{has}
 use Rattle.search.specs.Search.{explore}
-use Rattle.search.specs.Tables.{table_problem}
-use Rattle.search.specs.Work.{node_of, at_node, settled_node}
-use Rattle.search.proofs.Nodes.{variable_positive, variable_negative, settle_counts}
-use Rattle.search.proofs.Walking.{tables_bounded}
-use Rattle.search.proofs.Pricing.{counted_ahead, cost_small}
+use Rattle.search.specs.Stated.{stated}
+use Rattle.search.specs.Work.{node_of, at_node}
 use Rattle.search.specs.Counts.{words_for, Below}
-use Rattle.search.proofs.Rounds.{below_self, below_trans, below_less, outside_below, counts_below, counts_copied}
-use Rattle.search.proofs.Choosing.{child_on, child_ready, child_counts, child_room, child_price, child_falls, child_explored, chosen_plan, next_at, chosen_none, chosen_one, chosen_both, true_left, count_under, forced_left, forced_visit}
+use Rattle.search.proofs.Nodes.{variable_positive, variable_negative}
+use Rattle.search.proofs.Walking.{stated_bounded}
+use Rattle.search.proofs.Pricing.{counted_ahead, cost_small}
+use Rattle.search.proofs.Rounds.{below_trans, outside_below, counts_below, counts_copied}
+use Rattle.search.proofs.Choosing.{child_ready, child_counts, child_room, child_price, child_falls, child_explored, room_below, chosen_plan, next_at, chosen_none, chosen_one, chosen_both, true_left, count_under, forced_left, forced_visit}
 use Rattle.search.proofs.choose.+choose_force.Goals as goal
 
-pub choose-next_variable-v-requires : goal.choose-next_variable-v-requires
-choose-next_variable-v-requires t c =
-    c.requires.3.clauses.variables
-
-pub choose-returns-then-v-eq0 : goal.choose-returns-then-v-eq0
-choose-returns-then-v-eq0 t c =
+pub choose-returns-in_default-clause-visits : goal.choose-returns-in_default-clause-visits
+choose-returns-in_default-clause-visits m c =
+    λ deep l.
     let a = c.args in
+    let t = a.tables.now in
     let pre = c.requires in
-    let fine = pre.3 in
-    let P = table_problem a.size a.costs.now a.masks.now in
-    let bounded = tables_bounded a.size a.costs.now a.masks.now fine.clauses in
-    let v = c.next_variable-v in
-    record {
-      size = pre.0;
-      below = below_self a.at a.table.now;
-      visits = λ deep l. c.improved.ensures ∙ chosen_plan P bounded a.p a.s pre.4 a.price pre.5 pre.6 (explore P deep) (sym v.ensures ∙ c.if-v-eq0.true);
-    }
+    c.improved.ensures
+    ∙ chosen_plan (stated t) (stated_bounded t) a.p a.s pre.2 a.price pre.3 pre.4 (explore (stated t) deep) (c.next_variable.ensures.none c.in_default.is)
 
-pub choose-returns-then-s-eq0 : goal.choose-returns-then-s-eq0
-choose-returns-then-s-eq0 t c =
+pub choose-returns-then-s-eq0-clause-visits : goal.choose-returns-then-s-eq0-clause-visits
+choose-returns-then-s-eq0-clause-visits m c =
+    λ deep l.
     let a = c.args in
+    let t = a.tables.now in
     let pre = c.requires in
-    let fine = pre.3 in
-    let P = table_problem a.size a.costs.now a.masks.now in
-    let bounded = tables_bounded a.size a.costs.now a.masks.now fine.clauses in
-    let v = c.next_variable-v in
-    record {
-      size = pre.0;
-      below = below_self a.at a.table.now;
-      visits = λ deep l. c.halted.ensures ∙ chosen_none P bounded a.p a.s pre.4 a.price pre.5 pre.6 (explore P deep) v.result v.ensures c.if-v-eq0.false c.if-s-eq0.true;
-    }
+    let v = c.in-Some.v in
+    let is = c.next_variable.ensures.some v c.in-Some.is in
+    c.halted.ensures
+    ∙ chosen_none (stated t) (stated_bounded t) a.p a.s pre.2 a.price pre.3 pre.4 (explore (stated t) deep) v is.0 is.1.0 c.if-s-eq0.true
 
 pub choose-copy_level-requires : goal.choose-copy_level-requires
-choose-copy_level-requires t c =
+choose-copy_level-requires m c =
     let a = c.args in
-    let pre = c.requires in
-    let fine = pre.3 in
-    let P = table_problem a.size a.costs.now a.masks.now in
-    let bounded = tables_bounded a.size a.costs.now a.masks.now fine.clauses in
-    let v = c.next_variable-v in
-    let some = c.if-v-eq0.false in
-    let next = next_at P bounded a.p a.s pre.4 a.price pre.5 pre.6 (λ q S. S) v.result v.ensures some in
-    let here : Among a.size.variables (variable_of (negative v.result)) = rw (variable_negative v.result) next.among in
-    let free = rw (← variable_negative v.result) at next.passes in
-    let small = fine.clauses.clauses in
-    let fell = settle_counts a.size.variables a.p (negative v.result) here free in
-    (pre.0, omega (arith, small), omega (arith, pre.1, fell))
+    let t = a.tables.now in
+    let v = c.in-Some.v in
+    let is = c.next_variable.ensures.some v c.in-Some.is in
+    room_below (stated t) a.p v (next_at t.size.variables a.p v is.0 is.1.0) a.level.at c.requires.0
 
-pub choose-overflow_add-at : goal.choose-overflow_add-at
-choose-overflow_add-at t c =
-    let l = c.requires in omega (arith, l)
-
-pub choose-with_false-requires : goal.choose-with_false-requires
-choose-with_false-requires t c =
+pub choose-next-requires : goal.choose-next-requires
+choose-next-requires m c =
     let a = c.args in
-    let pre = c.requires in
-    let fine = pre.3 in
-    let P = table_problem a.size a.costs.now a.masks.now in
-    let bounded = tables_bounded a.size a.costs.now a.masks.now fine.clauses in
-    let v = c.next_variable-v in
-    let some = c.if-v-eq0.false in
-    let next = next_at P bounded a.p a.s pre.4 a.price pre.5 pre.6 (λ q S. S) v.result v.ensures some in
-    let small = fine.clauses.variables in
-    (next.among.0, omega (arith, next.among.1, small))
+    let t = a.tables.now in
+    let v = c.in-Some.v in
+    let is = c.next_variable.ensures.some v c.in-Some.is in
+    room_below (stated t) a.p v (next_at t.size.variables a.p v is.0 is.1.0) a.level.at c.requires.0
 
-pub choose-spent-requires : goal.choose-spent-requires
-choose-spent-requires t c =
-    omega (arith, c.if-s-eq0.false)
+pub choose-overflow_mul-v : goal.choose-overflow_mul-v
+choose-overflow_mul-v m c =
+    let is = c.next_variable.ensures.some c.in-Some.v c.in-Some.is in
+    let few = c.args.tables.now.fine.clauses.variables in
+    omega (arith, is.1.1, few)
+
+pub choose-overflow_add-v : goal.choose-overflow_add-v
+choose-overflow_add-v m c =
+    let is = c.next_variable.ensures.some c.in-Some.v c.in-Some.is in
+    let few = c.args.tables.now.fine.clauses.variables in
+    omega (arith, is.1.1, few)
+
+pub choose-chosen-first-requires : goal.choose-chosen-first-requires
+choose-chosen-first-requires m c =
+    let is = c.next_variable.ensures.some c.in-Some.v c.in-Some.is in
+    let few = c.args.tables.now.fine.clauses.variables in
+    (omega (arith, is.1.0), omega (arith, is.1.1, few))
 
 pub choose-force-t-requires : goal.choose-force-t-requires
-choose-force-t-requires t c =
+choose-force-t-requires m c =
     let a = c.args in
+    let t = a.tables.now in
+    let P = stated t in
     let pre = c.requires in
-    let fine = pre.3 in
-    let P = table_problem a.size a.costs.now a.masks.now in
-    let bounded = tables_bounded a.size a.costs.now a.masks.now fine.clauses in
-    let v = c.next_variable-v in
-    let some = c.if-v-eq0.false in
-    let next = next_at P bounded a.p a.s pre.4 a.price pre.5 pre.6 (λ q S. S) v.result v.ensures some in
-    let here : Among a.size.variables (variable_of (negative v.result)) = rw (variable_negative v.result) next.among in
-    let free = rw (← variable_negative v.result) at next.passes in
+    let v = c.in-Some.v in
+    let is = c.next_variable.ensures.some v c.in-Some.is in
+    let next = next_at t.size.variables a.p v is.0 is.1.0 in
     let d = c.copy_level in
-    let table = d.new.table in
-    let counts = counts_copied P a.at (words_for a.size.clauses) a.table.now table (at_node a.p) refl d.ensures.same pre.2 in
-    let w = c.with_false in (
-      child_falls P a.p pre.4 (negative v.result) here free w.result w.ensures t c.decreases,
+    let counts = counts_copied P a.level.at (words_for t.size.clauses) a.table.now d.new.table (at_node a.p) refl d.ensures.same pre.1 in
+    let w = c.chosen-first in (
+      child_falls P a.p pre.2 v next (negative v) (variable_negative v) w.result w.ensures m c.decreases,
       (
-        d.ensures.size,
-        child_room P a.p pre.4 (negative v.result) here free w.result w.ensures a.at pre.1,
-        child_counts P a.p pre.4 (negative v.result) here free w.result w.ensures table (a.at + 320) counts,
-        fine,
-        child_on P a.p pre.4 (negative v.result) here free w.result w.ensures,
-        child_ready P a.p pre.4 (negative v.result) here free w.result w.ensures,
-        child_price P a.p pre.4 (negative v.result) here free w.result w.ensures a.price pre.5,
+        rw c.next.ensures (child_room P a.p pre.2 v next (negative v) (variable_negative v) w.result w.ensures a.level.at pre.0),
+        rw c.next.ensures (child_counts P a.p pre.2 v next (negative v) (variable_negative v) w.result w.ensures d.new.table (a.level.at + 320) counts),
+        child_ready P a.p pre.2 v next (negative v) (variable_negative v) w.result w.ensures,
+        child_price P a.p pre.2 v next (negative v) (variable_negative v) w.result w.ensures a.price pre.3,
       ),
     )
 
-pub choose-returns-then-t-eq0 : goal.choose-returns-then-t-eq0
-choose-returns-then-t-eq0 t c =
+pub choose-returns-then-t-eq0-clause-visits : goal.choose-returns-then-t-eq0-clause-visits
+choose-returns-then-t-eq0-clause-visits m c =
+    λ deep l.
     let a = c.args in
+    let t = a.tables.now in
+    let P = stated t in
     let pre = c.requires in
-    let fine = pre.3 in
-    let P = table_problem a.size a.costs.now a.masks.now in
-    let bounded = tables_bounded a.size a.costs.now a.masks.now fine.clauses in
-    let v = c.next_variable-v in
-    let some = c.if-v-eq0.false in
-    let next = next_at P bounded a.p a.s pre.4 a.price pre.5 pre.6 (λ q S. S) v.result v.ensures some in
-    let here : Among a.size.variables (variable_of (negative v.result)) = rw (variable_negative v.result) next.among in
-    let free = rw (← variable_negative v.result) at next.passes in
-    let d = c.copy_level in
-    let table = d.new.table in
-    let w = c.with_false in
+    let v = c.in-Some.v in
+    let is = c.next_variable.ensures.some v c.in-Some.is in
+    let next = next_at t.size.variables a.p v is.0 is.1.0 in
+    let w = c.chosen-first in
     let f = c.force-t in
-    let s1 = c.spent in
-    let table2 = f.new.table in
-    let same : Below (a.at + 320) a.table.now table2 =
-    below_trans (a.at + 320) a.table.now table table2 (outside_below (a.at + 320) a.table.now table d.ensures.outside) f.ensures.below in
-    let one = child_explored P a.p pre.4 (negative v.result) here free w.result w.ensures bounded a.s s1.result f.result s1.ensures f.ensures.explores in
-    record {
-      size = f.ensures.size;
-      below = below_less a.at (a.at + 320) a.table.now table2 (omega arith) same;
-      visits = λ deep l. c.halted-then-t-eq0.ensures ∙ chosen_one P bounded a.p a.s pre.4 a.price pre.5 pre.6 (explore P deep) v.result v.ensures some f.result c.if-s-eq0.false (one deep l) c.if-t-eq0.true;
-    }
+    let one = child_explored P a.p pre.2 v next (negative v) (variable_negative v) w.result w.ensures (stated_bounded t) a.s c.spent.result f.result c.spent.ensures f.ensures.explores deep l in
+    c.halted-then-t-eq0.ensures
+    ∙ chosen_one P (stated_bounded t) a.p a.s pre.2 a.price pre.3 pre.4 (explore P deep) v is.0 is.1.0 f.result c.if-s-eq0.false one c.if-t-eq0.true
 
-pub choose-spent-u-requires : goal.choose-spent-u-requires
-choose-spent-u-requires t c =
-    omega (arith, c.if-t-eq0.false)
-
-pub choose-overflow_cast-v : goal.choose-overflow_cast-v
-choose-overflow_cast-v t c =
-    let a = c.args in
-    let pre = c.requires in
-    let fine = pre.3 in
-    let P = table_problem a.size a.costs.now a.masks.now in
-    let bounded = tables_bounded a.size a.costs.now a.masks.now fine.clauses in
-    let v = c.next_variable-v in
-    let some = c.if-v-eq0.false in
-    let next = next_at P bounded a.p a.s pre.4 a.price pre.5 pre.6 (λ q S. S) v.result v.ensures some in
-    let wide = fine.clauses.variables in
-    omega (arith, next.among.1, wide)
-
-pub choose-overflow_sub-v : goal.choose-overflow_sub-v
-choose-overflow_sub-v t c =
-    let a = c.args in
-    let pre = c.requires in
-    let fine = pre.3 in
-    let P = table_problem a.size a.costs.now a.masks.now in
-    let bounded = tables_bounded a.size a.costs.now a.masks.now fine.clauses in
-    let v = c.next_variable-v in
-    let some = c.if-v-eq0.false in
-    let next = next_at P bounded a.p a.s pre.4 a.price pre.5 pre.6 (λ q S. S) v.result v.ensures some in
-    omega (arith, next.among.0)
-
-pub choose-offset_bounds-costs-v : goal.choose-offset_bounds-costs-v
-choose-offset_bounds-costs-v t c =
-    let a = c.args in
-    let pre = c.requires in
-    let fine = pre.3 in
-    let P = table_problem a.size a.costs.now a.masks.now in
-    let bounded = tables_bounded a.size a.costs.now a.masks.now fine.clauses in
-    let v = c.next_variable-v in
-    let some = c.if-v-eq0.false in
-    let next = next_at P bounded a.p a.s pre.4 a.price pre.5 pre.6 (λ q S. S) v.result v.ensures some in
-    let wide = fine.clauses.variables in
-    omega (arith, next.among.0, next.among.1, wide)
-
-pub choose-bounds-costs-v : goal.choose-bounds-costs-v
-choose-bounds-costs-v t c =
-    let a = c.args in
-    let pre = c.requires in
-    let fine = pre.3 in
-    let P = table_problem a.size a.costs.now a.masks.now in
-    let bounded = tables_bounded a.size a.costs.now a.masks.now fine.clauses in
-    let v = c.next_variable-v in
-    let some = c.if-v-eq0.false in
-    let next = next_at P bounded a.p a.s pre.4 a.price pre.5 pre.6 (λ q S. S) v.result v.ensures some in
-    let wide = fine.clauses.variables in
-    omega (arith, next.among.0, next.among.1, wide)
-
-pub choose-overflow_cast-costs : goal.choose-overflow_cast-costs
-choose-overflow_cast-costs t c =
-    let a = c.args in
-    let pre = c.requires in
-    let fine = pre.3 in
-    let P = table_problem a.size a.costs.now a.masks.now in
-    let bounded = tables_bounded a.size a.costs.now a.masks.now fine.clauses in
-    let v = c.next_variable-v in
-    let some = c.if-v-eq0.false in
-    let next = next_at P bounded a.p a.s pre.4 a.price pre.5 pre.6 (λ q S. S) v.result v.ensures some in
-    let wide = fine.clauses.variables in
-    let each = fine.prices.each (v.result - 1) in
-    let price = cost_small a.size a.costs.now a.masks.now (has a.p.trues) wide fine.prices in
-    omega (arith, each)
+pub choose-bounds-tables-v : goal.choose-bounds-tables-v
+choose-bounds-tables-v m c =
+    let is = c.next_variable.ensures.some c.in-Some.v c.in-Some.is in
+    let few = c.args.tables.now.fine.clauses.variables in
+    omega (arith, is.1.0, is.1.1, few)
 
 pub choose-overflow_add-price : goal.choose-overflow_add-price
-choose-overflow_add-price t c =
+choose-overflow_add-price m c =
     let a = c.args in
-    let pre = c.requires in
-    let fine = pre.3 in
-    let P = table_problem a.size a.costs.now a.masks.now in
-    let bounded = tables_bounded a.size a.costs.now a.masks.now fine.clauses in
-    let v = c.next_variable-v in
-    let some = c.if-v-eq0.false in
-    let next = next_at P bounded a.p a.s pre.4 a.price pre.5 pre.6 (λ q S. S) v.result v.ensures some in
-    let wide = fine.clauses.variables in
-    let each = fine.prices.each (v.result - 1) in
-    let price = cost_small a.size a.costs.now a.masks.now (has a.p.trues) wide fine.prices in
-    omega (arith, each, price, pre.5)
+    let t = a.tables.now in
+    let each = t.fine.prices.each (c.in-Some.v - 1) in
+    let price = cost_small t.size t.costs t.masks (has a.p.trues) t.fine.clauses.variables t.fine.prices in
+    omega (arith, each, price, c.requires.3)
 
-pub choose-returns-then-u-price : goal.choose-returns-then-u-price
-choose-returns-then-u-price t c =
+pub choose-returns-then-u-price-clause-visits : goal.choose-returns-then-u-price-clause-visits
+choose-returns-then-u-price-clause-visits m c =
+    λ deep l.
     let a = c.args in
+    let t = a.tables.now in
+    let P = stated t in
     let pre = c.requires in
-    let fine = pre.3 in
-    let P = table_problem a.size a.costs.now a.masks.now in
-    let bounded = tables_bounded a.size a.costs.now a.masks.now fine.clauses in
-    let v = c.next_variable-v in
-    let some = c.if-v-eq0.false in
-    let next = next_at P bounded a.p a.s pre.4 a.price pre.5 pre.6 (λ q S. S) v.result v.ensures some in
-    let here : Among a.size.variables (variable_of (negative v.result)) = rw (variable_negative v.result) next.among in
-    let free = rw (← variable_negative v.result) at next.passes in
-    let d = c.copy_level in
-    let table = d.new.table in
-    let w = c.with_false in
+    let v = c.in-Some.v in
+    let is = c.next_variable.ensures.some v c.in-Some.is in
+    let next = next_at t.size.variables a.p v is.0 is.1.0 in
+    let w = c.chosen-first in
     let f = c.force-t in
-    let s1 = c.spent in
-    let table2 = f.new.table in
-    let same : Below (a.at + 320) a.table.now table2 =
-    below_trans (a.at + 320) a.table.now table table2 (outside_below (a.at + 320) a.table.now table d.ensures.outside) f.ensures.below in
-    let one = child_explored P a.p pre.4 (negative v.result) here free w.result w.ensures bounded a.s s1.result f.result s1.ensures f.ensures.explores in
-    let s2 = c.spent-u in record {
-      size = (f.ensures.size);
-      below = (below_less a.at (a.at + 320) a.table.now table2 (omega arith) same);
-      visits = (λ deep l. chosen_both P bounded a.p a.s pre.4 a.price pre.5 pre.6 (explore P deep) v.result v.ensures some f.result c.if-s-eq0.false (one deep l) s2.result c.if-t-eq0.false
-          (true_left P bounded a.p v.result next.among next.passes f.result s2.result a.price pre.5 s2.ensures c.if-u-price.true deep l));
-    }
+    let u = c.spent-u in
+    let one = child_explored P a.p pre.2 v next (negative v) (variable_negative v) w.result w.ensures (stated_bounded t) a.s c.spent.result f.result c.spent.ensures f.ensures.explores deep l in
+    chosen_both P (stated_bounded t) a.p a.s pre.2 a.price pre.3 pre.4 (explore P deep) v is.0 is.1.0 f.result c.if-s-eq0.false one u.result c.if-t-eq0.false
+    (true_left P (stated_bounded t) a.p v next.among next.passes f.result u.result a.price pre.3 u.ensures (rw c.from.ensures at c.if-u-price.true) deep l)
 
-pub choose-with_true-requires : goal.choose-with_true-requires
-choose-with_true-requires t c =
-    let a = c.args in
-    let pre = c.requires in
-    let fine = pre.3 in
-    let P = table_problem a.size a.costs.now a.masks.now in
-    let bounded = tables_bounded a.size a.costs.now a.masks.now fine.clauses in
-    let v = c.next_variable-v in
-    let some = c.if-v-eq0.false in
-    let next = next_at P bounded a.p a.s pre.4 a.price pre.5 pre.6 (λ q S. S) v.result v.ensures some in
-    let small = fine.clauses.variables in
-    (next.among.0, omega (arith, next.among.1, small))
+pub choose-overflow_mul-v-2 : goal.choose-overflow_mul-v-2
+choose-overflow_mul-v-2 m c =
+    let is = c.next_variable.ensures.some c.in-Some.v c.in-Some.is in
+    let few = c.args.tables.now.fine.clauses.variables in
+    omega (arith, is.1.1, few)
+
+pub choose-chosen-requires : goal.choose-chosen-requires
+choose-chosen-requires m c =
+    let is = c.next_variable.ensures.some c.in-Some.v c.in-Some.is in
+    let few = c.args.tables.now.fine.clauses.variables in
+    (omega (arith, is.1.0), omega (arith, is.1.1, few))
 
 pub choose-force-requires : goal.choose-force-requires
-choose-force-requires t c =
+choose-force-requires m c =
     let a = c.args in
+    let t = a.tables.now in
+    let P = stated t in
     let pre = c.requires in
-    let fine = pre.3 in
-    let P = table_problem a.size a.costs.now a.masks.now in
-    let bounded = tables_bounded a.size a.costs.now a.masks.now fine.clauses in
-    let v = c.next_variable-v in
-    let some = c.if-v-eq0.false in
-    let next = next_at P bounded a.p a.s pre.4 a.price pre.5 pre.6 (λ q S. S) v.result v.ensures some in
-    let here : Among a.size.variables (variable_of (negative v.result)) = rw (variable_negative v.result) next.among in
-    let free = rw (← variable_negative v.result) at next.passes in
+    let v = c.in-Some.v in
+    let is = c.next_variable.ensures.some v c.in-Some.is in
+    let next = next_at t.size.variables a.p v is.0 is.1.0 in
     let d = c.copy_level in
-    let table = d.new.table in
-    let w = c.with_false in
     let f = c.force-t in
-    let s1 = c.spent in
-    let table2 = f.new.table in
-    let same : Below (a.at + 320) a.table.now table2 =
-    below_trans (a.at + 320) a.table.now table table2 (outside_below (a.at + 320) a.table.now table d.ensures.outside) f.ensures.below in
-    let one = child_explored P a.p pre.4 (negative v.result) here free w.result w.ensures bounded a.s s1.result f.result s1.ensures f.ensures.explores in
-    let here2 : Among a.size.variables (variable_of (positive v.result)) = rw (variable_positive v.result) next.among in
-    let free2 = rw (← variable_positive v.result) at next.passes in
-    let w2 = c.with_true in
-    let few = fine.clauses.clauses in
-    let room = child_room P a.p pre.4 (positive v.result) here2 free2 w2.result w2.ensures a.at pre.1 in (
-      child_falls P a.p pre.4 (positive v.result) here2 free2 w2.result w2.ensures t c.decreases,
+    let same : Below (a.level.at + 320) a.table.now f.new.table =
+    below_trans (a.level.at + 320) a.table.now d.new.table f.new.table (outside_below (a.level.at + 320) a.table.now d.new.table d.ensures.outside) (rw c.next.ensures at f.ensures.below) in
+    let w = c.chosen in
+    let room = child_room P a.p pre.2 v next (positive v) (variable_positive v) w.result w.ensures a.level.at pre.0 in (
+      child_falls P a.p pre.2 v next (positive v) (variable_positive v) w.result w.ensures m c.decreases,
       (
-        f.ensures.size,
         omega (arith, room),
-        child_counts P a.p pre.4 (positive v.result) here2 free2 w2.result w2.ensures table2 a.at
-            (counts_below P a.at a.table.now table2 (at_node a.p) few same pre.2),
-        fine,
-        child_on P a.p pre.4 (positive v.result) here2 free2 w2.result w2.ensures,
-        child_ready P a.p pre.4 (positive v.result) here2 free2 w2.result w2.ensures,
-        child_price P a.p pre.4 (positive v.result) here2 free2 w2.result w2.ensures a.price pre.5,
+        child_counts P a.p pre.2 v next (positive v) (variable_positive v) w.result w.ensures f.new.table a.level.at
+            (counts_below P a.level.at a.table.now f.new.table (at_node a.p) t.fine.clauses.clauses same pre.1),
+        child_ready P a.p pre.2 v next (positive v) (variable_positive v) w.result w.ensures,
+        child_price P a.p pre.2 v next (positive v) (variable_positive v) w.result w.ensures a.price pre.3,
       ),
     )
 
-pub choose-returns : goal.choose-returns
-choose-returns t c =
+pub choose-returns-clause-visits : goal.choose-returns-clause-visits
+choose-returns-clause-visits m c =
+    λ deep l.
     let a = c.args in
+    let t = a.tables.now in
+    let P = stated t in
     let pre = c.requires in
-    let fine = pre.3 in
-    let P = table_problem a.size a.costs.now a.masks.now in
-    let bounded = tables_bounded a.size a.costs.now a.masks.now fine.clauses in
-    let v = c.next_variable-v in
-    let some = c.if-v-eq0.false in
-    let next = next_at P bounded a.p a.s pre.4 a.price pre.5 pre.6 (λ q S. S) v.result v.ensures some in
-    let here : Among a.size.variables (variable_of (negative v.result)) = rw (variable_negative v.result) next.among in
-    let free = rw (← variable_negative v.result) at next.passes in
-    let d = c.copy_level in
-    let table = d.new.table in
-    let w = c.with_false in
+    let v = c.in-Some.v in
+    let is = c.next_variable.ensures.some v c.in-Some.is in
+    let next = next_at t.size.variables a.p v is.0 is.1.0 in
+    let w = c.chosen-first in
+    let w2 = c.chosen in
     let f = c.force-t in
-    let s1 = c.spent in
-    let table2 = f.new.table in
-    let same : Below (a.at + 320) a.table.now table2 =
-    below_trans (a.at + 320) a.table.now table table2 (outside_below (a.at + 320) a.table.now table d.ensures.outside) f.ensures.below in
-    let one = child_explored P a.p pre.4 (negative v.result) here free w.result w.ensures bounded a.s s1.result f.result s1.ensures f.ensures.explores in
-    let here2 : Among a.size.variables (variable_of (positive v.result)) = rw (variable_positive v.result) next.among in
-    let free2 = rw (← variable_positive v.result) at next.passes in
-    let w2 = c.with_true in
-    let s2 = c.spent-u in
     let g = c.force in
-    let table3 = g.new.table in
-    let two = child_explored P a.p pre.4 (positive v.result) here2 free2 w2.result w2.ensures bounded f.result s2.result g.result s2.ensures g.ensures.explores in
-    record {
-      size = g.ensures.size;
-      below = below_trans a.at a.table.now table2 table3 (below_less a.at (a.at + 320) a.table.now table2 (omega arith) same) g.ensures.below;
-      visits = λ deep l. chosen_both P bounded a.p a.s pre.4 a.price pre.5 pre.6 (explore P deep) v.result v.ensures some f.result c.if-s-eq0.false (one deep l) g.result c.if-t-eq0.false (two deep l);
-    }
+    let u = c.spent-u in
+    let one = child_explored P a.p pre.2 v next (negative v) (variable_negative v) w.result w.ensures (stated_bounded t) a.s c.spent.result f.result c.spent.ensures f.ensures.explores deep l in
+    let two = child_explored P a.p pre.2 v next (positive v) (variable_positive v) w2.result w2.ensures (stated_bounded t) f.result u.result g.result u.ensures g.ensures.explores deep l in
+    chosen_both P (stated_bounded t) a.p a.s pre.2 a.price pre.3 pre.4 (explore P deep) v is.0 is.1.0 f.result c.if-s-eq0.false one g.result c.if-t-eq0.false two
 
-pub force-returns-then-s-price : goal.force-returns-then-s-price
-force-returns-then-s-price t c =
+pub force-returns-then-s-price-clause-explores : goal.force-returns-then-s-price-clause-explores
+force-returns-then-s-price-clause-explores m c =
+    λ p deep reached l.
     let a = c.args in
-    let pre = c.requires in
-    let P = table_problem a.size a.costs.now a.masks.now in record {
-      size = (pre.0);
-      below = (below_self a.at a.table.now);
-      explores = (λ p deep reached l.
-          forced_left P p a.s (counted_ahead P p a.w a.s.cost reached (omega (arith, pre.6, c.if-s-price.true))) deep (omega (arith, l)));
-    }
+    let P = stated a.tables.now in
+    forced_left P p a.s (counted_ahead P p a.w a.s.cost reached (omega (arith, c.requires.3, c.if-s-price.true))) deep (omega (arith, l))
 
-pub force-force_all-f-requires : goal.force-force_all-f-requires
-force-force_all-f-requires t c =
+pub force-returns-in_default-clause-explores : goal.force-returns-in_default-clause-explores
+force-returns-in_default-clause-explores m c =
+    λ p deep reached l.
     let a = c.args in
-    let pre = c.requires in
-    let P = table_problem a.size a.costs.now a.masks.now in
-    (pre.0, pre.3, omega (arith, pre.1), pre.2, pre.4, pre.5, pre.6, omega (arith, c.if-s-price.false))
-
-pub force-returns-then-f : goal.force-returns-then-f
-force-returns-then-f t c =
-    let a = c.args in
-    let pre = c.requires in
-    let P = table_problem a.size a.costs.now a.masks.now in
-    let f = c.force_all-f in record {
-      size = (f.ensures.size);
-      below = (outside_below a.at a.table.now f.new.table f.ensures.outside);
-      explores = (λ p deep reached l.
-          forced_left P p a.s ((f.ensures.same p reached).leaves c.if-f.true) deep (omega (arith, l)));
-    }
+    forced_left (stated a.tables.now) p a.s ((c.force_all.ensures.same p reached).leaves c.in_default.is) deep (omega (arith, l))
 
 pub force-choose-requires : goal.force-choose-requires
-force-choose-requires t c =
+force-choose-requires m c =
     let a = c.args in
     let pre = c.requires in
-    let P = table_problem a.size a.costs.now a.masks.now in
-    let f = c.force_all-f in
-    let on = c.if-f.false in
-    let fewer = count_under a.size.variables (node_of a.w) (settled_node f.result) (f.ensures.under on) in
-    let (quiet, is-price, cheaper) = f.ensures.quiet on in
-    (omega (arith, fewer, c.decreases), (f.ensures.size, omega (arith, fewer, pre.1), f.ensures.counts on, pre.3, quiet, is-price, cheaper))
+    let e = c.force_all.ensures in
+    let f = c.in-Some.f in
+    let is = c.in-Some.is in
+    let fewer = count_under a.tables.now.size.variables (node_of a.w) f.node (e.under f is) in
+    let (quiet, is-price, cheaper) = e.quiet f is in
+    (omega (arith, fewer, c.decreases), (omega (arith, fewer, pre.0), e.counts f is, quiet, is-price, cheaper))
 
-pub force-returns : goal.force-returns
-force-returns t c =
+pub force-returns-clause-explores : goal.force-returns-clause-explores
+force-returns-clause-explores m c =
+    λ p deep reached l.
     let a = c.args in
-    let pre = c.requires in
-    let P = table_problem a.size a.costs.now a.masks.now in
-    let f = c.force_all-f in
-    let g = c.choose in
-    let bounded = tables_bounded a.size a.costs.now a.masks.now pre.3.clauses in record {
-      size = (g.ensures.size);
-      below = (below_trans a.at a.table.now f.new.table g.new.table (outside_below a.at a.table.now f.new.table f.ensures.outside) g.ensures.below);
-      explores = (λ p deep reached l.
-          forced_visit P p a.s bounded (settled_node f.result) g.result ((f.ensures.same p reached).stays c.if-f.false) g.ensures.visits deep l);
-    }
+    let t = a.tables.now in
+    let f = c.in-Some.f in
+    forced_visit (stated t) p a.s (stated_bounded t) f.node c.choose.result ((c.force_all.ensures.same p reached).stays f c.in-Some.is)
+    c.choose.ensures.visits deep l

@@ -6,7 +6,7 @@ use Rattle.search.specs.Work.{node_of, unsettled_count}
 use Rattle.search.proofs.choose.+choose_force.Given as goal
 
 abbrev pub decreases-choose : goal.decreases-choose
-decreases-choose l = 2 * unsettled_count l.size.variables l.p
+decreases-choose l = 2 * unsettled_count l.tables.now.size.variables l.p
 
 abbrev pub decreases-force : goal.decreases-force
-decreases-force l = 2 * unsettled_count l.size.variables (node_of l.w) + 1
+decreases-force l = 2 * unsettled_count l.tables.now.size.variables (node_of l.w) + 1

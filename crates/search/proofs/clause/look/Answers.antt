@@ -12,7 +12,7 @@ returns-then-rest-eq0 c =
     λ n small fine.
     let a = c.args in
     let f = c.not_false-rest in
-    is_false (rest_none n a.a a.b small fine (node_of a.w) f.result (omega arith) f.ensures c.if-rest-eq0.true) c.kill.ensures
+    is_false (rest_none n a.a a.b small fine (node_of a.w) f.result (omega arith) f.ensures c.if-rest-eq0.true) refl
 
 pub returns-then-rest-ne0 : goal.returns-then-rest-ne0
 returns-then-rest-ne0 c =

