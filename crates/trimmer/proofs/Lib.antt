@@ -13,3 +13,4 @@ pub mod Parts
 pub mod Loops
 pub mod Whole
 pub mod Cases
+pub mod Placed

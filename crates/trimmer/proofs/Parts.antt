@@ -76,14 +76,11 @@ pair_length mark offset size = go (eqb mark 1)
     go true = length_pair offset size
     go false = refl
 
-pub pair_put : (mark offset size at : ℕ) (l p : List ℕ) → mark ≡ 1 → at + length (pair_if mark offset size) ≤ length l
-    → p ≡ put (bytes_of 4 offset ++ bytes_of 4 size) (part_from at l) → part_put at l p ≡ over (take at l ++ pair_if mark offset size) l
-pair_put mark offset size at l p e room ep =
+pub pair_put : (mark offset size : ℕ) (l p : List ℕ) → mark ≡ 1 → length (pair_if mark offset size) ≤ length l
+    → p ≡ put (bytes_of 4 offset ++ bytes_of 4 size) l → p ≡ over (pair_if mark offset size) l
+pair_put mark offset size l p e room ep =
     let z = pair_marked mark offset size e in
-    let n = ap length z in
-    let f = length_from at l in
-    rw z (behind_written at l (bytes_of 4 offset ++ bytes_of 4 size) p (omega arith)
-    (ep ∙ put_room (bytes_of 4 offset ++ bytes_of 4 size) (part_from at l) (omega (arith, n, f))))
+    rw z (ep ∙ put_room (bytes_of 4 offset ++ bytes_of 4 size) l (rw z at room))
 
 -- ---- what stands before the pairs
 
@@ -106,18 +103,14 @@ head_put r table count l₀ l p q h g room el ep eq =
     put_next 12 l₀ (part_put 8 l p) (take 8 r ++ bytes_of 4 count) (take (table - 12) (drop 12 r)) q c m
     (eq ∙ put_room (take (table - 12) (drop 12 r)) (part_from 12 (part_put 8 l p)) (omega (arith, d, fc, lc)))
 
--- ---- a body at a place, renumbered
+-- ---- a body, renumbered
 
-module _ (number : ℕ → ℕ) (b : List ℕ) (a : ℕ) (l p : List ℕ) (room : a + length b ≤ length l) where
+module _ (number : ℕ → ℕ) (b l p : List ℕ) (room : length b ≤ length l) where
   -- another kind is as it was
-  pub body_other : (get_or b 0 0 ≡ 4 → ⊥) → p ≡ put b (part_from a l) → part_put a l p ≡ over (take a l ++ renumbered (kind_of b) number b) l
-  body_other h e =
-      let f = length_from a l in
-      rw (same_body (kind_of b) number b (not_four b h))
-      (behind_written a l b p (omega arith) (e ∙ put_room b (part_from a l) (omega (arith, f))))
+  pub body_other : (get_or b 0 0 ≡ 4 → ⊥) → p ≡ put b l → p ≡ over (renumbered (kind_of b) number b) l
+  body_other h e = rw (same_body (kind_of b) number b (not_four b h)) (e ∙ put_room b l room)
 
   pub body_citing : {x y i j : ℕ} → get_or b 0 0 ≡ 4 → i ≡ cited b 1 → j ≡ cited b 2 → x ≡ number i → y ≡ number j
-      → p ≡ over (citing b x y) (part_from a l) → part_put a l p ≡ over (take a l ++ renumbered (kind_of b) number b) l
+      → p ≡ over (citing b x y) l → p ≡ over (renumbered (kind_of b) number b) l
   unfolding renumbered
-  body_citing {x} {y} h ei ej ex ey e =
-      rw (is_four b h, ← ei, ← ej, ← ex, ← ey) (behind_written a l (citing b x y) p (omega arith) e)
+  body_citing {x} {y} h ei ej ex ey e = rw (is_four b h, ← ei, ← ej, ← ex, ← ey) e

@@ -1,27 +1,26 @@
 -- What is promised of the trimmed record of one that is not refused.
 -- Assumes nothing.
-use Prim.Native.Nat.{ℕ, zero, suc, ◌+◌, ◌*◌, ◌≤◌}
-use mathlib.Core.Path.{◌≡◌, refl, sym, ◌∙◌}
+use Prim.Native.Nat.{ℕ, ◌+◌, ◌*◌, ◌≤◌}
+use mathlib.Core.Path.{◌≡◌, sym, ◌∙◌}
 use mathlib.Core.Bool.{true}
 use mathlib.Core.List.{List, [], ◌∷◌, ◌++◌, map}
 use mathlib.Core.Logic.{inl, inr}
 use native.Mathlib.Omega.{arith}
-use native.Mathlib.Numerals.{add-one}
-use lib.ListN.{length, drop, replicate, length-append, replicate-append-replicate}
+use lib.ListN.{length, drop, replicate, length-append}
 use lib.Seq.{get_or-drop}
 use lib.Dec.{leb}
 use borrow.Author.Tests.{le-leb}
-use Rattle.judgement.specs.declared.Finding.TheVariants.{Fine}
+use Rattle.std.specs.Prelude.{Ok}
 use Rattle.judgement.specs.declared.Kind.{Kind}
 use Rattle.judgement.specs.declared.Kind.TheVariants.{Copy, Cost, IndependentSet, Resolvent, WeightedSet, Unknown}
-use Rattle.judgement.specs.Scan.{count_of, list_of}
+use Rattle.judgement.specs.Scan.{count_of}
 use Rattle.judgement.specs.Meaning.{none}
 use Rattle.judgement.specs.Pairs.{pair_offset, pair_length, body}
 use Rattle.judgement.specs.Record.{claim, steps, step_pairs_at, step}
 use Rattle.judgement.specs.Step.{kind_of, literal_count, literals_at, stated}
 use Rattle.judgement.specs.Writer.{joined, file_of, record_of}
 use Rattle.judgement.specs.Judgement.{close, finding, judgement, passes}
-use Rattle.judgement.specs.Facts.{Among, BeforeClose}
+use Rattle.judgement.specs.Facts.{BeforeClose}
 use Rattle.judgement.specs.Demands.{IsBytes}
 use Rattle.judgement.proofs.Laws.Scan.{which}
 use Rattle.judgement.proofs.Laws.Stored.{number_below, part_bytes}
@@ -34,6 +33,7 @@ use Rattle.judgement.proofs.Facts.Accepted.{facts_fine, passed_fine, passes_clos
 use Rattle.trimmer.specs.Trim.{cites, kept, citing, new_number, renumbered, new_body, trimmed, marks_of, few_marks, short_output, mark_finding, trim_finding, trimming, output_left}
 use Rattle.trimmer.specs.Promises.{LeastClosed, Renumbered, with_steps, Trimming}
 use Rattle.trimmer.proofs.Kept.{least_only}
+use Rattle.trimmer.proofs.Marking.{list_const}
 use Rattle.trimmer.proofs.Chosen.{count_rises, count_from}
 use Rattle.trimmer.proofs.Moving.{cites_when, same_body}
 use Rattle.trimmer.proofs.Trimmed.{kept_set, new_alike, trimmed_shorter, trimmed_steps, number_among, moved, new_citations, trimmed_last, agree, trimmed_claim, trimmed_passes, trimmed_count, every_kept, trimmed_again}
@@ -67,15 +67,6 @@ trimmed_bytes s r h =
     (part_bytes r h (pair_length r (step_pairs_at s) k) (pair_offset r (step_pairs_at s) k)) in
     search (append_bytes, bytes_are_bytes, pairs_bytes, part_bytes, bodies_bytes, h, new)
 
--- ---- values that are all the same
-
-list_const : (f : ℕ → ℕ) (c n : ℕ) → ((k : ℕ) → Among n k → f k ≡ c) → list_of f n ≡ replicate n c
-unfolding list_of
-list_const f c zero h = refl
-list_const f c (suc n) h =
-    rw (list_const f c n (λ k w. h k (w.0, omega (arith, w.1))), h (suc n) (omega arith, omega arith))
-    (rw add-one at (replicate-append-replicate n 1 c))
-
 module _ (s r : List ℕ) (bytes : IsBytes r) (ok : passes (judgement s r) ≡ true) where
   abbrev q : List ℕ
   q = trimmed s r
@@ -106,7 +97,7 @@ module _ (s r : List ℕ) (bytes : IsBytes r) (ok : passes (judgement s r) ≡ t
         | inr h ↦ cost_fine s q (last.count_is ∙ h.empty) (λ z. h.some (sym claim_is ∙ z))
       ]
 
-  still_fine : finding s q ≡ Fine
+  still_fine : finding s q ≡ Ok tt
   still_fine =
       fine_is (finding s q) (facts_fine s q (trimmed_passes s r before small) still_closes)
 

@@ -11,8 +11,8 @@ use native.Mathlib.Decide.{dec_lt}
 use lib.ListN.{length, get_or, take, drop, get_or-append, take-append-drop}
 use lib.Seq.{take-append_seam, drop-append_seam, drop_at, length-take-le, get_or-take, ext_get_or}
 use borrow.Author.Tests.{le-leb, lt-leb}
-use Rattle.judgement.specs.declared.Finding.{Finding}
-use Rattle.judgement.specs.declared.Finding.TheVariants.{Fine, Fault}
+use Rattle.std.specs.Prelude.{Ok}
+use Rattle.judgement.specs.Finding.{Finding, fault}
 use Rattle.judgement.specs.declared.Written.{Written}
 use Rattle.judgement.specs.Scan.{one, list_of}
 use Rattle.judgement.specs.Record.{steps}
@@ -32,19 +32,19 @@ use Rattle.trimmer.specs.Promises.{TrimmedWhen}
 refusal_number : (s r : List ℕ) → passes (judgement s r) ≡ false → (1 ≤ (judgement s r).number) × ((judgement s r).number < 25)
 refusal_number s r e = numbered s r (judgement s r).number (judgement s r).place ((shape s r).place e)
 
-refusal : (s r : List ℕ) → passes (judgement s r) ≡ false → finding s r ≡ Fault (judgement s r).number (judgement s r).place
+refusal : (s r : List ℕ) → passes (judgement s r) ≡ false → finding s r ≡ fault (judgement s r).number (judgement s r).place
 unfolding judgement
 refusal s r e = answer_fault s r (finding s r) _ _ (λ z. omega (arith, (refusal_number s r e).0, z)) refl refl
 
 -- ---- which of the four answers it is, by the finding before the marks are written and that of all
 
 data Case (s r : List ℕ) (marks room : ℕ) (f g : Finding) : Type 0 where
-  refused : passes (judgement s r) ≡ false → f ≡ Fault (judgement s r).number (judgement s r).place
-      → g ≡ Fault (judgement s r).number (judgement s r).place → Case s r marks room f g
-  few : passes (judgement s r) ≡ true → marks < steps r → f ≡ Fault 27 0 → g ≡ Fault 27 0 → Case s r marks room f g
-  short : passes (judgement s r) ≡ true → steps r ≤ marks → room < length (trimmed s r) → f ≡ Fine → g ≡ Fault 28 0
+  refused : passes (judgement s r) ≡ false → f ≡ fault (judgement s r).number (judgement s r).place
+      → g ≡ fault (judgement s r).number (judgement s r).place → Case s r marks room f g
+  few : passes (judgement s r) ≡ true → marks < steps r → f ≡ fault 27 0 → g ≡ fault 27 0 → Case s r marks room f g
+  short : passes (judgement s r) ≡ true → steps r ≤ marks → room < length (trimmed s r) → f ≡ Ok tt → g ≡ fault 28 0
       → Case s r marks room f g
-  enough : passes (judgement s r) ≡ true → steps r ≤ marks → length (trimmed s r) ≤ room → f ≡ Fine → g ≡ Fine
+  enough : passes (judgement s r) ≡ true → steps r ≤ marks → length (trimmed s r) ≤ room → f ≡ Ok tt → g ≡ Ok tt
       → Case s r marks room f g
 
 case_of : (s r : List ℕ) (marks room : ℕ) → Case s r marks room (mark_finding s r marks) (trim_finding s r marks room)

@@ -3,18 +3,18 @@
 use Prim.Native.Nat.{ℕ, ◌+◌, ◌-◌, ◌*◌, ◌^◌, ◌≤◌, ◌<◌}
 use mathlib.Core.Path.{◌≡◌, refl, sym, ap, ◌∙◌}
 use mathlib.Core.Bool.{true}
-use mathlib.Core.List.{List, ◌++◌, append_assoc}
+use mathlib.Core.List.{List, ◌++◌, append_assoc, append-nil}
 use native.Mathlib.Omega.{arith}
-use lib.ListN.{length, take, drop, length-append, length-take, length-drop, length-map}
-use lib.Seq.{length-take-le, take_at, drop_at, drop-drop, drop-append-add}
+use lib.ListN.{length, take, drop, length-append, length-take, length-drop, length-map, drop_of_length-le}
+use lib.Seq.{length-take-le, drop_at, drop-append-add}
 use borrow.Author.Tests.{eq-eqb, le-leb, lt-leb}
-use Rattle.judgement.specs.declared.Finding.{Finding}
-use Rattle.judgement.specs.declared.Finding.TheVariants.{Fine, Fault}
+use Rattle.std.specs.Prelude.{Ok, Err}
+use Rattle.judgement.specs.Finding.{Finding}
 use Rattle.judgement.specs.declared.Answer.{Answer}
 use Rattle.judgement.specs.declared.Written.{Written}
 use Rattle.judgement.specs.Scan.{sum_of, count_of}
 use Rattle.judgement.specs.Sheet.{variables}
-use Rattle.judgement.specs.Record.{claim, steps, step_pairs_at, assignment_size}
+use Rattle.judgement.specs.Record.{claim, steps, assignment_size}
 use Rattle.judgement.specs.Writer.{bytes_of, file_of, record_of}
 use Rattle.judgement.specs.Buffer.{over, written_by, left_by}
 use Rattle.judgement.specs.Judgement.{finding, judgement, passes}
@@ -22,69 +22,41 @@ use Rattle.judgement.specs.Demands.{IsBytes}
 use Rattle.judgement.proofs.Laws.Stored.{bytes_again}
 use Rattle.judgement.proofs.Laws.Buffer.{part_from, part_put}
 use Rattle.judgement.proofs.Complete.Bytes.{length_bytes}
-use Rattle.judgement.proofs.Facts.Accepted.{passed_fine, passes_before}
+use Rattle.judgement.proofs.Facts.Accepted.{passed_fine}
 use Rattle.trimmer.specs.Trim.{kept, kept_steps, new_body, kept_bodies, assignment_bytes, trimmed, marks_of, few_marks, short_output, mark_finding, trim_finding, trimming, marks_left, output_left}
-use Rattle.trimmer.specs.Work.{Passed, Marked, marked, bodies_to, pairs_to, head_bytes}
+use Rattle.trimmer.specs.Work.{Marked, marked, bodies_to, pairs_to, head_bytes}
 use Rattle.trimmer.proofs.Chosen.{count_at_most, count_rises, length_chosen}
+use Rattle.trimmer.proofs.When.{marks_size}
 use Rattle.trimmer.proofs.Trimmed.{kept_set, size_is, trimmed_shorter}
-use Rattle.trimmer.proofs.Behind.{behind_written, part_in}
+use Rattle.trimmer.proofs.Behind.{behind_written}
 use Rattle.trimmer.proofs.Steps.{few_steps, marks_length, counted}
 use Rattle.trimmer.proofs.Loops.{length_pairs_to}
+use Rattle.trimmer.specs.declared.put.Selection.{Selection}
+use Rattle.trimmer.proofs.Placed.{s, r, selected}
 
--- ---- four writes, the third over the first
+-- ---- the front part and the bodies behind it
 
--- `tab` from `at` to `start`, the bodies behind it, the pairs over it, and the head before them
-module _ (at start : ℕ) (l₀ tab head pairs bodies : List ℕ) (low : at ≤ start) (room : start ≤ length l₀)
-    (tab-size : length tab ≡ start - at) (head_size : length head ≡ at) (pairs_size : length pairs ≡ start - at) where
-  abbrev before : List ℕ
-  before = take at l₀
+-- pairs from `at` to the end of a part, and then the head before them
+module _ (at : ℕ) (l pairs head : List ℕ) (low : at ≤ length l) (head_size : length head ≡ at) (pairs_size : length pairs ≡ length l - at) where
+  pub front_written : (p m : List ℕ) → p ≡ over pairs (part_from at l) → m ≡ over head (part_put at l p) → m ≡ head ++ pairs
+  front_written p m ep em =
+      let n = length-take-le at l low in
+      let z : length (take at l ++ pairs) ≡ length l = length-append (take at l) pairs ∙ omega (arith, n) in
+      let d = drop_of_length-le l {i = length l} (omega arith) in
+      let w : part_put at l p ≡ take at l ++ pairs = behind_written at l pairs p low ep ∙ rw (z, d, append-nil) in
+      em ∙ rw (w, head_size, drop_at (take at l) pairs at n)
 
-  abbrev sampled : List ℕ
-  sampled = part_in at start l₀ tab
-
-  abbrev rest : List ℕ
-  rest = bodies ++ drop (length bodies) (drop start l₀)
-
-  before_size : length before ≡ at
-  before_size = length-take-le at l₀ (omega arith)
-
-  front_size : length (before ++ tab) ≡ start
-  front_size = length-append before tab ∙ omega (arith, before_size)
-
-  sampled_is : sampled ≡ (before ++ tab) ++ drop start l₀
-  sampled_is =
-      let e : at + (start - at) ≡ start = omega arith in
-      rw (drop-drop (start - at) at l₀, e, append_assoc)
-
-  with_bodies : (l : List ℕ) → l ≡ over (take start sampled ++ bodies) sampled → l ≡ (before ++ tab) ++ rest
-  with_bodies l e =
-      let t : take start sampled ≡ before ++ tab = rw sampled_is (take_at (before ++ tab) (drop start l₀) start front_size) in
-      let d : drop (length ((before ++ tab) ++ bodies)) sampled ≡ drop (length bodies) (drop start l₀) =
-      rw (sampled_is, length-append (before ++ tab) bodies) (drop-append-add (before ++ tab) (drop start l₀) (length bodies)) in
-      e ∙ rw (t, d, append_assoc (before ++ tab) bodies (drop (length bodies) (drop start l₀)))
-
-  with_pairs : (l p : List ℕ) → l ≡ (before ++ tab) ++ rest → p ≡ over pairs (part_from at l) → part_put at l p ≡ before ++ (pairs ++ rest)
-  with_pairs l p e ep =
-      let n : length l ≡ start + length rest = ap length e ∙ length-append (before ++ tab) rest ∙ omega (arith, front_size) in
-      let t : take at l ≡ before = rw (e, append_assoc before tab rest) (take_at before (tab ++ rest) at before_size) in
-      let m : length (before ++ pairs) ≡ start = length-append before pairs ∙ omega (arith, before_size) in
-      let d : drop start l ≡ rest = rw e (drop_at (before ++ tab) rest start front_size) in
-      behind_written at l pairs p (omega arith) ep ∙ rw (t, m, d, append_assoc before pairs rest)
-
-  pub all_written : (l p m : List ℕ) → l ≡ over (take start (part_in at start l₀ tab) ++ bodies) (part_in at start l₀ tab)
-      → p ≡ over pairs (part_from at l) → m ≡ over head (part_put at l p) → m ≡ over ((head ++ pairs) ++ bodies) l₀
-  all_written l p m el ep em =
-      let w = with_pairs l p (with_bodies l el) ep in
-      let d : drop (length head) (part_put at l p) ≡ pairs ++ rest = rw (w, head_size) (drop_at before (pairs ++ rest) at before_size) in
-      let n : length ((head ++ pairs) ++ bodies) ≡ start + length bodies =
-      (let a = length-append (head ++ pairs) bodies in let b = length-append head pairs in omega (arith, a, b)) in
-      em ∙ rw (
-        d,
-        n,
-        ← (drop-drop (length bodies) start l₀),
-        append_assoc (head ++ pairs) bodies (drop (length bodies) (drop start l₀)),
-        append_assoc head pairs rest,
-      )
+pub all_written : (front₀ back₀ front back w v : List ℕ) → length w ≡ length front₀ → front ≡ w → back ≡ over v back₀
+    → front ++ back ≡ over (w ++ v) (front₀ ++ back₀)
+all_written front₀ back₀ front back w v n ef eb =
+    rw (
+      ef,
+      eb,
+      length-append w v,
+      n,
+      drop-append-add front₀ back₀ (length v),
+      append_assoc w v (drop (length v) back₀),
+    )
 
 -- ---- sizes, and the record part by part
 
@@ -161,6 +133,29 @@ module _ (s r : List ℕ) (table : ℕ) (marks : List ℕ) (m : Marked s r table
       omega (arith, size, c, es) in
       rw (marks_length s r table marks m, first, bits, ← z, c)
 
+-- how many steps are kept, and how long the whole is
+pub record Sizes (x : Selection) : Type 0 where
+  pub some : 1 ≤ count_of (kept x.source.sheet.now x.source.«record».now) (steps x.source.«record».now)
+  pub few : count_of (kept x.source.sheet.now x.source.«record».now) (steps x.source.«record».now) < 2 ^ 29
+  pub whole : x.source.table + 8 * count_of (kept x.source.sheet.now x.source.«record».now) (steps x.source.«record».now)
+      + length (bodies_to x.source.sheet.now x.source.«record».now (length x.marks.now)) ≡ length (trimmed x.source.sheet.now x.source.«record».now)
+  pub short : length (trimmed x.source.sheet.now x.source.«record».now) < 2 ^ 32
+  pub marked : (1 ≤ length x.marks.now) × (length x.marks.now < 2 ^ 29)
+
+pub sizes : (x : Selection) → Sizes x
+sizes x =
+    let m = selected x in
+    let n = marks_length (s x.source) (r x.source) x.source.table x.marks.now m in
+    let f = few_steps (s x.source) (r x.source) x.source.table m.passed in
+    let t = m.passed.before.stored.layout.t in
+    record {
+      some = some_kept (s x.source) (r x.source) x.source.table x.marks.now m;
+      few = few_kept (s x.source) (r x.source) x.source.table x.marks.now m;
+      whole = whole_size (s x.source) (r x.source) x.source.table x.marks.now m;
+      short = whole_short (s x.source) (r x.source) x.source.table x.marks.now m;
+      marked = (omega arith, omega arith);
+    }
+
 -- ---- the answers
 
 -- 28, or the record
@@ -178,6 +173,10 @@ pub long_enough : (s r out left : List ℕ) (n : ℕ) → length (trimmed s r) �
 unfolding short_output
 long_enough s r out left n h en el = let e = le-leb (length (trimmed s r)) (length out) h in (rw (e, en), rw (e, el))
 
+-- the marks stand at the beginning of what is lent for them
+pub marks_put : (s r marks m : List ℕ) (t : ℕ) → t ≡ steps r → m ≡ marks_of s r → m ++ drop t marks ≡ over (marks_of s r) marks
+marks_put s r marks m t e h = rw (h, marks_size s r, e)
+
 -- the answer and both buffers
 abbrev pub Trims : List ℕ → List ℕ → List ℕ → List ℕ → Written → List ℕ → List ℕ → Type 0
 Trims s r marks out a m l =
@@ -189,8 +188,8 @@ unfolding judgement mark_finding trim_finding trimming marks_left output_left
 refused_record s r marks out a e h = go (finding s r) refl
   where
     go : (f : Finding) → finding s r ≡ f → Trims s r marks out (record { number = a.number; place = a.place; length = 0 }) marks out
-    go Fine q = absurd (h (rw (e, q)))
-    go (Fault number place) q = (rw (e, q), rw q, rw q)
+    go (Ok _) q = absurd (h (rw (e, q)))
+    go (Err x) q = (rw (e, q), rw q, rw q)
 
 module _ (s r marks out : List ℕ) (ok : passes (judgement s r) ≡ true) where
   pub few_marks_lem : length marks < steps r → Trims s r marks out (record { number = 27; place = 0; length = 0 }) marks out
@@ -208,6 +207,3 @@ module _ (s r marks out : List ℕ) (ok : passes (judgement s r) ≡ true) where
 
 pub passed_by : (s r : List ℕ) (a : Answer) → a ≡ judgement s r → a.number ≡ 0 → passes (judgement s r) ≡ true
 passed_by s r a e h = eq-eqb (judgement s r).number 0 (rw e at h)
-
-pub passed_of : (s r : List ℕ) (table : ℕ) → passes (judgement s r) ≡ true → table ≡ step_pairs_at s → Passed s r table
-passed_of s r table ok e = record { before = passes_before s r ok; pairs = e }

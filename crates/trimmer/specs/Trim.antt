@@ -3,11 +3,10 @@
 -- Assumes nothing.
 use Rattle.std.specs.Prelude.{ℕ, zero, suc, ◌+◌, ◌-◌, ◌*◌, Bool, false, cond, ◌&&◌, ◌||◌, List, [], ◌∷◌, ◌++◌, map, length, take, drop, eqb, leb}
 use Rattle.judgement.specs.Scan.{one, count_of, list_of}
-use Rattle.judgement.specs.declared.Finding.{Finding}
 use Rattle.judgement.specs.declared.Written.{Written}
 use Rattle.judgement.specs.declared.Kind.{Kind}
 use Rattle.judgement.specs.declared.Kind.TheVariants.{Copy, Cost, IndependentSet, Resolvent, WeightedSet, Unknown}
-use Rattle.judgement.specs.Finding.{need, ◌then◌}
+use Rattle.judgement.specs.Finding.{Finding, need, ◌then◌}
 use Rattle.judgement.specs.Sheet.{variables}
 use Rattle.judgement.specs.Record.{claim, steps, assignment_at, assignment_size, step}
 use Rattle.judgement.specs.Step.{kind_of, literal_count, literals_at, tail, cited}

@@ -67,10 +67,6 @@ pub record Sampled (table marks : List ℕ) (w : ℕ) : Type 0 where
   pub room : (i : ℕ) → i * w < length marks → 4 * i + 4 ≤ length table
   pub sample : (i : ℕ) → i * w < length marks → number_at table (4 * i) 4 ≡ count_of (marked marks) (i * w)
 
--- the bytes of l from a up to e
-abbrev pub between : ℕ → ℕ → List ℕ → List ℕ
-between a e l = take (e - a) (drop a l)
-
 -- ---- the trimmed record, step by step
 
 -- what step k adds to the bodies
@@ -92,3 +88,5 @@ pairs_to s r start k = pairs_of start (map (new_body s r) (chosen (kept s r) k))
 -- what stands before the pairs, which begin at `table`, for so many steps
 unfoldable pub head_bytes : List ℕ → ℕ → ℕ → List ℕ
 head_bytes r table count = take 8 r ++ bytes_of 4 count ++ take (table - 12) (drop 12 r)
+
+-- ---- the answer

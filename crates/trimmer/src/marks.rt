@@ -3,23 +3,19 @@ ghost use Rattle.std.specs.Prelude.{◌≡◌, ◌≤◌, length, eqb};
 ghost use Rattle.judgement.specs.Record.{steps, step};
 ghost use Rattle.judgement.specs.Step.{kind_of};
 ghost use Rattle.judgement.specs.Facts.{Among};
-ghost use Rattle.judgement.specs.Buffer.{over};
 ghost use Rattle.trimmer.specs.Trim.{marks_of};
-ghost use Rattle.trimmer.specs.Work.{Passed, Citing, marks_to, with_cited, passed_on};
+ghost use Rattle.trimmer.specs.Work.{Citing, marks_to, with_cited, passed_on};
 
 use crate::read;
+use crate::source::Source;
 
-// No mark but that of step t.
-fn mark_last(t: usize, marks: &mut [u8])
-    requires { Among (length marks.old) t }
-    ensures { marks.new ≡ over (marks_to (λ k. eqb k t) t) marks.old }
+// No mark but that of the last step.
+fn mark_last(marks: &mut [u8])
+    requires { 1 ≤ length marks.old }
+    ensures { marks.new ≡ marks_to (λ k. eqb k (length marks.old)) (length marks.old) }
 {
-    let mut i = 0;
-    while i < t - 1 {
-        marks[i] = 0;
-        i += 1;
-    }
-    marks[i] = 1;
+    marks.fill(0);
+    marks[marks.len() - 1] = 1;
 }
 
 // The steps that a body b cites get marks: two of kind 4, none of another kind.
@@ -28,6 +24,7 @@ fn mark_cited(b: &[u8], marks: &mut [u8])
     requires { Citing b.now (length marks.old) }
     ensures { marks.new ≡ with_cited (kind_of b.now) b.now marks.old }
 {
+    // 4 is the byte of `Kind::Resolvent`, the only kind that cites steps; checker's `kind_of` is private to it.
     if b[0] != 4 {
         return;
     }
@@ -38,26 +35,24 @@ fn mark_cited(b: &[u8], marks: &mut [u8])
 }
 
 // Step k passes its mark on, if it has one.
-fn pass_on(s: &[u8], r: &[u8], table: usize, k: usize, marks: &mut [u8])
-    requires { Passed s.now r.now table × Among (steps r.now) k × (steps r.now ≤ length marks.old) }
-    ensures { marks.new ≡ passed_on (step s.now r.now k) k marks.old }
+fn pass_on(source: &Source, k: usize, marks: &mut [u8])
+    requires { Among (steps source.now.«record».now) k × (steps source.now.«record».now ≤ length marks.old) }
+    ensures { marks.new ≡ passed_on (step source.now.sheet.now source.now.«record».now k) k marks.old }
 {
     if marks[k - 1] != 1 {
         return;
     }
-    mark_cited(read::body_at(r, table, k), marks);
+    mark_cited(source.body(k), marks);
 }
 
-// The first t marks: 1 for a kept step, 0 for another. A step cites earlier ones only, so that its own mark is settled when its
+// A mark for each step: 1 for a kept one, 0 for another. A step cites earlier ones only, so that its own mark is settled when its
 // turn comes.
-pub(crate) fn mark_kept(s: &[u8], r: &[u8], table: usize, t: usize, marks: &mut [u8])
-    requires { Passed s.now r.now table × (t ≡ steps r.now) × (t ≤ length marks.old) }
-    ensures { marks.new ≡ over (marks_of s.now r.now) marks.old }
+pub(crate) fn mark_kept(source: &Source, marks: &mut [u8])
+    requires { length marks.old ≡ steps source.now.«record».now }
+    ensures { marks.new ≡ marks_of source.now.sheet.now source.now.«record».now }
 {
-    mark_last(t, marks);
-    let mut k = t;
-    while 0 < k {
-        pass_on(s, r, table, k, marks);
-        k -= 1;
+    mark_last(marks);
+    for k in (0..marks.len()).rev() {
+        pass_on(source, k + 1, marks);
     }
 }

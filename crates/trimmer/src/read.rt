@@ -1,34 +1,21 @@
-// The readers of inner loops. They test nothing: what they read is known to be there. Two bytes are put together in 16 bits, so
-// that the compiler makes one load of them.
+// The readers of inner loops. They test nothing: what they read is known to be there. What is public is total, so that other crates
+// have such readers of their own. The library has `from_le_bytes` at each type and by no trait.
 ghost use Rattle.std.specs.Prelude.{◌≡◌, ◌+◌, ◌*◌, ◌^◌, ◌≤◌, ◌<◌, length};
 ghost use Rattle.judgement.specs.Number.{number_at};
-ghost use Rattle.judgement.specs.Pairs.{body};
 ghost use Rattle.judgement.specs.Step.{literal_count, cited};
-ghost use Rattle.checker.specs.Read.{Within};
 
 pub(crate) fn u16_at(part: &[u8], at: usize) -> u16
     requires { at + 2 ≤ length part.now }
     ensures { result ≡ number_at part.now at 2 }
 {
-    part[at] as u16 + 256 * (part[at + 1] as u16)
+    u16::from_le_bytes([part[at], part[at + 1]])
 }
 
 pub(crate) fn u32_at(part: &[u8], at: usize) -> usize
     requires { at + 4 ≤ length part.now }
     ensures { (result ≡ number_at part.now at 4) × (result < 2 ^ 32) }
 {
-    u16_at(part, at) as usize + 65536 * (u16_at(part, at + 2) as usize)
-}
-
-// Body k of a table that begins at `table`: lent on from where its pair says.
-pub(crate) fn body_at(file: &[u8], table: usize, k: usize) -> &[u8]
-    requires { Within file.now table k }
-    ensures { result.now ≡ body file.now table k }
-{
-    let p = table + 8 * (k - 1);
-    let start = u32_at(file, p);
-    let end = start + u32_at(file, p + 4);
-    &file[start..end]
+    u32::from_le_bytes([part[at], part[at + 1], part[at + 2], part[at + 3]]) as usize
 }
 
 // Where the tail of a step's body begins: behind its literals.

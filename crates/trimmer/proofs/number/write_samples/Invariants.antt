@@ -2,17 +2,14 @@
 -- at the next.
 -- Assumes nothing.
 use mathlib.Core.Path.{◌≡◌}
-use Prim.Native.Nat.{ℕ, ◌-◌, ◌*◌, ◌<◌, min}
+use Prim.Native.Nat.{ℕ, ◌*◌, ◌<◌, min}
 use lib.ListN.{length}
 use Rattle.judgement.specs.Number.{number_at}
 use Rattle.judgement.specs.Scan.{count_of}
 use Rattle.trimmer.specs.Work.{marked}
 use Rattle.trimmer.proofs.number.write_samples.Given as goal
 
-abbrev pub invariant-loop-pos : goal.invariant-loop-pos
-invariant-loop-pos l =
-    (l.pos ≡ l.i * l.w) × (l.n ≡ count_of (marked l.marks) (min l.pos (length l.marks))) × (length l.table ≡ length l.initial.table)
+abbrev pub invariant-loop-i : goal.invariant-loop-i
+invariant-loop-i l =
+    (l.n ≡ count_of (marked l.marks) (min (l.i * l.w) (length l.marks))) × (length l.table ≡ length l.initial.table)
     × ((j : ℕ) → j < l.i → number_at l.table (4 * j) 4 ≡ count_of (marked l.marks) (j * l.w))
-
-abbrev pub decreases-loop-pos : goal.decreases-loop-pos
-decreases-loop-pos l = length l.marks - l.pos
