@@ -2,28 +2,27 @@
 -- Assumes nothing.
 use Prim.Native.Nat.{◌*◌, ◌+◌, ◌-◌, ◌/◌, ◌<◌, ◌^◌, ◌≤◌, ℕ}
 use mathlib.Core.Path.{◌∙◌, ◌≡◌, refl}
-use mathlib.Core.Bool.{◌&&◌, false, true, true≢false}
+use mathlib.Core.Bool.{◌&&◌, false, true}
 use mathlib.Core.List.{List}
-use mathlib.Core.Logic.{◌≢◌}
 use native.Mathlib.Numerals.{add-one}
 use native.Mathlib.Omega.{arith}
-use borrow.Author.Tests.{le-leb, leb-true, lt-leb, ne_eqb}
+use borrow.Author.Tests.{le-leb, leb-true, lt-leb}
 use lib.Dec.{leb}
 use lib.ListN.{get_or, length}
+use Rattle.std.specs.Prelude.{Option, Ok, Err}
 use Rattle.judgement.specs.Buffer.{Kept, over}
 use Rattle.judgement.specs.Facts.{ValidSheet}
-use Rattle.judgement.specs.Finding.{◌then◌, is_fine, need, over_all}
+use Rattle.judgement.specs.Finding.{Finding, fault, need, over_all}
+use Rattle.judgement.specs.declared.Refusal.{Refusal}
 use Rattle.judgement.specs.Literals.{count}
 use Rattle.judgement.specs.Record.{assignment_size}
 use Rattle.judgement.specs.Scan.{sum_of}
 use Rattle.judgement.specs.Sheet.{alone_finding, clause, clauses, variables}
-use Rattle.judgement.specs.declared.Finding.{Finding}
-use Rattle.judgement.specs.declared.Finding.TheVariants.{Fault, Fine}
 use Rattle.judgement.proofs.Facts.Layouts.{alone_valid}
-use Rattle.judgement.proofs.Laws.Findings.{fine_is, found_over, need_true, over_each}
+use Rattle.judgement.proofs.Laws.Findings.{found_over, over_each}
 use Rattle.judgement.proofs.Laws.Patch.{kept_next}
 use Rattle.judgement.proofs.Laws.Scan.{and_l, and_r, sum_last}
-use Rattle.turns.specs.Counts.{AllAmong, CountedFor, wrong_at}
+use Rattle.turns.specs.Counts.{CountedFor, wrong_at}
 use Rattle.turns.specs.declared.Turned.{Turned}
 use Rattle.turns.specs.Index.{index_end}
 use Rattle.turns.specs.Turning.{Lent, answer_of, broken_total, has_room, index_of, index_size, left, left_in, lent, lent_finding, no_room, turn_finding, turned, turning, value_in, wrong_turn}
@@ -106,128 +105,88 @@ is_room s a i c r =
 
 -- ---- 30
 
-over_next : (f : ℕ → Finding) (i : ℕ) → over_all f i ≡ Fine → f (i + 1) ≡ Fine → over_all f (i + 1) ≡ Fine
+over_next : (f : ℕ → Finding) (i : ℕ) → over_all f i ≡ Ok tt → f (i + 1) ≡ Ok tt → over_all f (i + 1) ≡ Ok tt
 unfolding over_all
 over_next f i p q = rw (add-one, p) (rw add-one at q)
 
-over_at : (f : ℕ → Finding) (i n number place : ℕ) → i < n → over_all f i ≡ Fine → f (i + 1) ≡ Fault number place → over_all f n ≡ Fault number place
+over_at : (f : ℕ → Finding) (i n number place : ℕ) → i < n → over_all f i ≡ Ok tt → f (i + 1) ≡ fault number place → over_all f n ≡ fault number place
 over_at f i n number place h p q =
-    found_over f n (Fault number place) refl (i + 1, (omega arith, omega arith), λ d low m. over_each f i (rw p) d (low, omega arith), q)
+    found_over f n (fault number place) refl (i + 1, (omega arith, omega arith), λ d low m. over_each f i (rw p) d (low, omega arith), q)
 
 wrong_test : (n : ℕ) (turns : List ℕ) (i : ℕ) → wrong_turn n turns (i + 1) ≡ need (leb 1 (get_or turns i 0) && leb (get_or turns i 0) n) 30 (i + 1)
 unfolding wrong_turn
 wrong_test n turns i = let e : i + 1 - 1 ≡ i = omega arith in rw e
 
-pub wrong_next : (n : ℕ) (turns : List ℕ) (i : ℕ) → over_all (wrong_turn n turns) i ≡ Fine → 1 ≤ get_or turns i 0 → get_or turns i 0 ≤ n
-    → over_all (wrong_turn n turns) (i + 1) ≡ Fine
+pub wrong_next : (n : ℕ) (turns : List ℕ) (i : ℕ) → over_all (wrong_turn n turns) i ≡ Ok tt → 1 ≤ get_or turns i 0 → get_or turns i 0 ≤ n
+    → over_all (wrong_turn n turns) (i + 1) ≡ Ok tt
 wrong_next n turns i p g h =
     over_next (wrong_turn n turns) i p (wrong_test n turns i ∙ rw (le-leb 1 (get_or turns i 0) g, le-leb (get_or turns i 0) n h))
 
-wrong_is : (r : ℕ) → Fault 30 (r + 1) ≡ wrong_at (r + 1)
-wrong_is r = rw (ne_eqb (r + 1) 0 (omega arith))
+pub wrong_here : (n : ℕ) (turns : List ℕ) (i : ℕ) → i < length turns → over_all (wrong_turn n turns) i ≡ Ok tt
+    → (leb 1 (get_or turns i 0) && leb (get_or turns i 0) n) ≡ false → over_all (wrong_turn n turns) (length turns) ≡ fault 30 (i + 1)
+wrong_here n turns i h p t = over_at (wrong_turn n turns) i (length turns) 30 (i + 1) h p (wrong_test n turns i ∙ rw t)
 
--- a place that is not 0 says 30
-pub wrong_some : (r : ℕ) → 1 ≤ r → wrong_at r ≡ Fault 30 r
-wrong_some r h = rw (ne_eqb r 0 (λ e. omega (arith, e, h)))
+pub wrong_low : (n : ℕ) (turns : List ℕ) (i : ℕ) → i < length turns → over_all (wrong_turn n turns) i ≡ Ok tt → get_or turns i 0 < 1
+    → over_all (wrong_turn n turns) (length turns) ≡ fault 30 (i + 1)
+wrong_low n turns i h p g = wrong_here n turns i h p (rw (lt-leb 1 (get_or turns i 0) g))
 
-pub wrong_low : (n : ℕ) (turns : List ℕ) (i : ℕ) → i < length turns → over_all (wrong_turn n turns) i ≡ Fine → get_or turns i 0 < 1
-    → over_all (wrong_turn n turns) (length turns) ≡ wrong_at (i + 1)
-wrong_low n turns i h p g =
-    over_at (wrong_turn n turns) i (length turns) 30 (i + 1) h p (wrong_test n turns i ∙ rw (lt-leb 1 (get_or turns i 0) g)) ∙ wrong_is i
-
-pub wrong_high : (n : ℕ) (turns : List ℕ) (i : ℕ) → i < length turns → over_all (wrong_turn n turns) i ≡ Fine → 1 ≤ get_or turns i 0 → n < get_or turns i 0
-    → over_all (wrong_turn n turns) (length turns) ≡ wrong_at (i + 1)
-wrong_high n turns i h p f g =
-    over_at (wrong_turn n turns) i (length turns) 30 (i + 1) h p
-    (wrong_test n turns i ∙ rw (le-leb 1 (get_or turns i 0) f, lt-leb (get_or turns i 0) n g))
-    ∙ wrong_is i
-
-pub wrong_none : (n : ℕ) (turns : List ℕ) (i : ℕ) → length turns ≡ i → over_all (wrong_turn n turns) i ≡ Fine
-    → over_all (wrong_turn n turns) (length turns) ≡ wrong_at 0
-wrong_none n turns i e p = rw e p
-
-pub all_among : (n : ℕ) (turns : List ℕ) → over_all (wrong_turn n turns) (length turns) ≡ Fine → AllAmong n turns
-all_among n turns p i h =
-    let f = over_each (wrong_turn n turns) (length turns) (rw p refl) (i + 1) (omega arith, omega arith) in
-    let t = need_true (leb 1 (get_or turns i 0) && leb (get_or turns i 0) n) 30 (i + 1) (rw (wrong_test n turns i) at f) in (
-      leb-true 1 (get_or turns i 0) (and_l (leb 1 (get_or turns i 0)) (leb (get_or turns i 0) n) t),
-      leb-true (get_or turns i 0) n (and_r (leb 1 (get_or turns i 0)) (leb (get_or turns i 0) n) t),
-    )
-
--- ---- the answer and the buffers of a valid sheet
-
--- answer r, and buffers b as lent and l as left, are those of this finding
-abbrev pub Outcome : Finding → List ℕ → List ℕ → Lent → Turned → Lent → Type 0
-Outcome f s turns b r l = (r ≡ answer_of f (broken_total s (value_in (turned b.assignment turns)))) × (l ≡ left_in f s turns b)
-
-fault_outcome : (f : Finding) (number place : ℕ) (s turns : List ℕ) (b : Lent) → f ≡ Fault number place
-    → Outcome f s turns b (record { number = number; place = place; total = 0 }) b
-fault_outcome f number place s turns b e = rw e (refl, refl)
-
-module _ (s turns a i c : List ℕ) where
-  pub no_room_lem : has_room s (length a) (length i) (length c) ≡ false
-      → Outcome (lent_finding s turns (lent a i c)) s turns (lent a i c) (record { number = 29; place = 0; total = 0 }) (lent a i c)
-  unfolding lent_finding no_room
-  no_room_lem e = fault_outcome (lent_finding s turns (lent a i c)) 29 0 s turns (lent a i c) (rw e)
-
-  pub wrong_turn_lem : (n r : ℕ) → n ≡ variables s → has_room s (length a) (length i) (length c) ≡ true
-      → over_all (wrong_turn n turns) (length turns) ≡ wrong_at r → r ≢ 0
-      → Outcome (lent_finding s turns (lent a i c)) s turns (lent a i c) (record { number = 30; place = r; total = 0 }) (lent a i c)
-  unfolding lent_finding no_room
-  wrong_turn_lem n r en e w d =
-      let f : over_all (wrong_turn (variables s) turns) (length turns) ≡ Fault 30 r = rw (← en) (w ∙ rw (ne_eqb r 0 d)) in
-      fault_outcome (lent_finding s turns (lent a i c)) 30 r s turns (lent a i c) (rw (e, f))
-
-  -- where there is room, the turns alone are looked at
-  pub with_room : has_room s (length a) (length i) (length c) ≡ true
-      → lent_finding s turns (lent a i c) ≡ over_all (wrong_turn (variables s) turns) (length turns)
-  unfolding lent_finding no_room
-  with_room e = rw e
-
-  pub none_wrong : (n r : ℕ) → n ≡ variables s → over_all (wrong_turn n turns) (length turns) ≡ wrong_at r → r ≡ 0
-      → over_all (wrong_turn (variables s) turns) (length turns) ≡ Fine
-  none_wrong n r en w d = rw (← en) (w ∙ rw d)
-
-  pub all_turned : (total : ℕ) (l : Lent) → has_room s (length a) (length i) (length c) ≡ true
-      → over_all (wrong_turn (variables s) turns) (length turns) ≡ Fine
-      → total ≡ broken_total s (value_in (turned a turns)) → l ≡ left_in Fine s turns (lent a i c)
-      → Outcome (lent_finding s turns (lent a i c)) s turns (lent a i c) (record { number = 0; place = 0; total = total }) l
-  unfolding lent_finding no_room
-  all_turned total l e w et el = rw (e, w) (rw et, el)
+pub wrong_high : (n : ℕ) (turns : List ℕ) (i : ℕ) → i < length turns → over_all (wrong_turn n turns) i ≡ Ok tt → 1 ≤ get_or turns i 0 → n < get_or turns i 0
+    → over_all (wrong_turn n turns) (length turns) ≡ fault 30 (i + 1)
+wrong_high n turns i h p f g = wrong_here n turns i h p (rw (le-leb 1 (get_or turns i 0) f, lt-leb (get_or turns i 0) n g))
 
 -- the three buffers after the work
 pub run_done : (s turns a₀ i₀ c₀ a i₁ i c c₁ : List ℕ) (total : ℕ) → Kept (index_end s) i₀ i₁ → i ≡ over (index_of s) i₁ → a ≡ turned a₀ turns
     → CountedFor s (value_in a) total c → Kept (2 * clauses s) c₀ c₁ → Kept (2 * clauses s) c₁ c
-    → (total ≡ broken_total s (value_in (turned a₀ turns))) × (lent a i c ≡ left_in Fine s turns (lent a₀ i₀ c₀))
+    → (total ≡ broken_total s (value_in (turned a₀ turns))) × (lent a i c ≡ left_in (Ok tt) s turns (lent a₀ i₀ c₀))
 run_done s turns a₀ i₀ c₀ a i₁ i c c₁ total ki ei ea h k k' =
     let (ec, et) = counts_whole s (value_in a) total c₀ c h (kept_next (2 * clauses s) c₀ c₁ c k k') in
     let same : over (index_of s) i₁ ≡ over (index_of s) i₀ = rw (index_length s, ki.behind) in
     (et ∙ rw ea, rw (ec, ea, ei, same))
 
--- ---- the sheet first
+-- ---- the answer and the buffers, by the finding
 
-pub refused_sheet : (s turns a i c : List ℕ) (f : Finding) (r : Turned) → f ≡ alone_finding s → is_fine f ≡ false → r ≡ answer_of f 0
-    → (r ≡ turning s turns (lent a i c)) × (lent a i c ≡ left s turns (lent a i c))
-unfolding turning left turn_finding
-refused_sheet s turns a i c f r ef nf er = rw (← ef) (go f nf er)
-  where
-    go : (f : Finding) → is_fine f ≡ false → r ≡ answer_of f 0
-        → (r ≡ answer_of (f then lent_finding s turns (lent a i c)) (broken_total s (value_in (turned a turns))))
-        × (lent a i c ≡ left_in (f then lent_finding s turns (lent a i c)) s turns (lent a i c))
-    go Fine e q = absurd (true≢false e)
-    go (Fault number place) e q = (q, refl)
+-- the answer to a finding f, and what is left, are these
+abbrev pub Outcome : Finding → List ℕ → List ℕ → Lent → Turned → Lent → Type 0
+Outcome f s turns b r l = (r ≡ answer_of f (broken_total s (value_in (turned b.assignment turns)))) × (l ≡ left_in f s turns b)
 
-pub passed_sheet : (s turns a i c : List ℕ) (l : Lent) (f : Finding) (r : Turned) → f ≡ alone_finding s → is_fine f ≡ true
-    → Outcome (lent_finding s turns (lent a i c)) s turns (lent a i c) r l → (r ≡ turning s turns (lent a i c)) × (l ≡ left s turns (lent a i c))
-unfolding turning left turn_finding
-passed_sheet s turns a i c l f r ef nf w = rw (← ef, fine_is f nf) w
+module _ (s turns : List ℕ) (b : Lent) where
+  pub valid_by : {u : Unit {0}} → Ok u ≡ alone_finding s → ValidSheet s
+  valid_by e = alone_valid s (rw (← e))
 
-pub valid_by : (s : List ℕ) {f : Finding} → f ≡ alone_finding s → is_fine f ≡ true → ValidSheet s
-valid_by s {f} e i = alone_valid s (rw e at i)
+  outcome : (f : Finding) (r : Turned) (l : Lent) → turn_finding s turns b ≡ f → Outcome f s turns b r l → (r ≡ turning s turns b) × (l ≡ left s turns b)
+  unfolding turning left
+  outcome f r l e w = rw e w
 
-pub refused_fine : {f : Finding} → f ≡ Fine → ◌≡◌ {A = Turned} (record { number = 0; place = 0; total = 0 }) (answer_of f 0)
-refused_fine e = rw e
+  -- 1 to 4
+  pub refused_sheet : (x : Refusal) → Err x ≡ alone_finding s
+      → ◌≡◌ {A = Turned} (record { number = x.number; place = x.place; total = 0 }) (turning s turns b) × (b ≡ left s turns b)
+  unfolding turn_finding
+  refused_sheet x e = outcome (Err x) _ b (rw (← e)) (refl, refl)
 
-pub refused_fault : {f : Finding} {number place : ℕ} → f ≡ Fault number place
-    → ◌≡◌ {A = Turned} (record { number = number; place = place; total = 0 }) (answer_of f 0)
-refused_fault e = rw e
+  pub no_room_lem : {u : Unit {0}} → Ok u ≡ alone_finding s → has_room s (length b.assignment) (length b.index) (length b.counts) ≡ false
+      → ◌≡◌ {A = Turned} (record { number = 29; place = 0; total = 0 }) (turning s turns b) × (b ≡ left s turns b)
+  unfolding turn_finding lent_finding no_room
+  no_room_lem e r = outcome (fault 29 0) _ b (rw (← e, r)) (refl, refl)
+
+  pub wrong_told : (n : ℕ) (r o : Option ℕ) → n ≡ variables s → over_all (wrong_turn n turns) (length turns) ≡ wrong_at r → r ≡ o
+      → over_all (wrong_turn (variables s) turns) (length turns) ≡ wrong_at o
+  wrong_told n r o en w e = rw (← en) (w ∙ rw e)
+
+  -- where there is room, the turns alone are looked at
+  with_room : (f : Finding) {u : Unit {0}} → Ok u ≡ alone_finding s → has_room s (length b.assignment) (length b.index) (length b.counts) ≡ true
+      → over_all (wrong_turn (variables s) turns) (length turns) ≡ f → turn_finding s turns b ≡ f
+  unfolding turn_finding lent_finding no_room
+  with_room f e r w = rw (← e, r) w
+
+  pub wrong_turn_lem : (place : ℕ) {u : Unit {0}} → Ok u ≡ alone_finding s
+      → has_room s (length b.assignment) (length b.index) (length b.counts) ≡ true
+      → over_all (wrong_turn (variables s) turns) (length turns) ≡ fault 30 place
+      → ◌≡◌ {A = Turned} (record { number = 30; place = place; total = 0 }) (turning s turns b) × (b ≡ left s turns b)
+  wrong_turn_lem place e r w = outcome (fault 30 place) _ b (with_room (fault 30 place) e r w) (refl, refl)
+
+  pub all_turned : (total : ℕ) (l : Lent) {u : Unit {0}} → Ok u ≡ alone_finding s
+      → has_room s (length b.assignment) (length b.index) (length b.counts) ≡ true
+      → over_all (wrong_turn (variables s) turns) (length turns) ≡ Ok tt
+      → (total ≡ broken_total s (value_in (turned b.assignment turns))) × (l ≡ left_in (Ok tt) s turns b)
+      → ◌≡◌ {A = Turned} (record { number = 0; place = 0; total = total }) (turning s turns b) × (l ≡ left s turns b)
+  all_turned total l e r w d = outcome (Ok tt) _ l (with_room (Ok tt) e r w) (rw d.0, d.1)

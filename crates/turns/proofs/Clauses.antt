@@ -219,12 +219,6 @@ counting_done s k i l₀ l w h d =
       h.kept,
     )
 
-pub filled_as : (s : List ℕ) (k j : ℕ) (l : List ℕ) → k ≡ j → FilledTo s k l → FilledTo s j l
-filled_as s k j l e h = rw (sym e) h
-
-pub sized_as : (s : List ℕ) (k j : ℕ) (l : List ℕ) → k ≡ j → SizedTo s k l → SizedTo s j l
-sized_as s k j l e h = rw (sym e) h
-
 -- ---- the pairs of a sheet placed
 
 pub record PlacingAt (s : List ℕ) (v next : ℕ) (l₀ l : List ℕ) : Type 0 where
@@ -279,6 +273,3 @@ pairs_within s = start_after (variables s) (uses s) (variables s + 1)
 
 pub sizes_as : (n j : ℕ) (f : ℕ → ℕ) (l : List ℕ) → n ≡ j → Sizes n f l → Sizes j f l
 sizes_as n j f l e h = rw (sym e) h
-
-pub kept_as : (n j : ℕ) (l₀ l : List ℕ) → n ≡ j → Kept (8 * n) l₀ l → Kept (8 * j) l₀ l
-kept_as n j l₀ l e h = rw (sym e) h

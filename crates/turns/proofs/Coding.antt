@@ -8,11 +8,12 @@ use native.Mathlib.Nat.{one-mul}
 use native.Mathlib.Numerals.{add-one}
 use native.Mathlib.Omega.{arith}
 use borrow.Author.Tests.{eq-eqb, ne_eqb}
+use mir.Val.{bool_byte}
 use lib.Bits.{and_mask, bit_and, bit_xor}
 use lib.Dec.{eqb}
 use lib.ListN.{get_or, length, set, take}
 use lib.Pow.{shl_exact}
-use lib.Seq.{take_all, take-suc}
+use lib.Seq.{take-suc}
 use Rattle.judgement.specs.Facts.{Among, ValidSheet}
 use Rattle.judgement.specs.Literals.{code, count, holds}
 use Rattle.judgement.specs.Meaning.{Assignment, literal_true, positive}
@@ -23,6 +24,7 @@ use Rattle.judgement.specs.Sheet.{clause, clauses, variables}
 use Rattle.judgement.proofs.Laws.Scan.{sum_last}
 use Rattle.turns.specs.Counts.{CountedFor, Steps, Touched, agrees, goes_up}
 use Rattle.turns.specs.Index.{entry, uses}
+use Rattle.turns.specs.Promises.{AllTurns}
 use Rattle.turns.specs.Turning.{mentioning, true_in, turn, turned, value_in}
 use Rattle.turns.proofs.Counting.{Turned}
 use Rattle.turns.proofs.Signs.{half_entry}
@@ -46,6 +48,11 @@ pub in_bytes : (n v size : ℕ) → Among n v → assignment_size n ≤ size →
 in_bytes n v size w h = omega (arith, w.0, w.1)
 
 -- ---- counting afresh
+
+-- a test as a number, as the code takes it
+pub byte_one : {y : ℕ} (b : Bool) → y ≡ bool_byte b → (y ≡ one b) × (y ≤ 1)
+byte_one true e = (e, omega (arith, e))
+byte_one false e = (e, omega (arith, e))
 
 pub record TrueTo (s : List ℕ) (α : Assignment) (k i sum : ℕ) : Type 0 where
   pub within : i ≤ count (clause s k)
@@ -135,10 +142,11 @@ counted_back s a v total l r e c = rw (e, turn_twice a v) c
 pub long_turned : (a r : List ℕ) (n v : ℕ) → r ≡ turn a v → n ≤ length a → n ≤ length r
 long_turned a r n v e h = rw (e, length_turn a v) h
 
+-- the turn at i, counted from 0
+pub turn_among : (n : ℕ) (turns : List ℕ) (i : ℕ) → AllTurns n turns → i < length turns → Among n (get_or turns i 0)
+turn_among n turns i all h = let e : i + 1 - 1 ≡ i = omega arith in rw e at (all (i + 1) (omega arith, omega arith))
+
 pub turned_next : (a₀ a r turns : List ℕ) (i : ℕ) → i < length turns → a ≡ turned a₀ (take i turns) → r ≡ turn a (get_or turns i 0)
     → r ≡ turned a₀ (take (i + 1) turns)
 turned_next a₀ a r turns i h ea er =
     er ∙ rw (ea, add-one, take-suc turns i 0 h) (sym (turned_more a₀ (take i turns) (get_or turns i 0)))
-
-pub turned_all : (a₀ a turns : List ℕ) (i : ℕ) → length turns ≤ i → a ≡ turned a₀ (take i turns) → a ≡ turned a₀ turns
-turned_all a₀ a turns i h e = e ∙ rw (take_all i turns h)

@@ -11,6 +11,7 @@ use borrow.Author.Tests.{eq-eqb, eqb-false, eqb-true, ne_eqb}
 use lib.Dec.{eqb}
 use lib.ListN.{get_or-append, drop, get_or, length, set}
 use lib.Seq.{drop-append_seam, get_or_at, take-append_seam, take-length}
+use Rattle.std.specs.Prelude.{Ok}
 use Rattle.judgement.specs.Buffer.{over}
 use Rattle.judgement.specs.Facts.{Among, Mentions, PairRule, Rising, ValidSheet}
 use Rattle.judgement.specs.Literals.{holds, mentions}
@@ -22,7 +23,6 @@ use Rattle.judgement.specs.Scan.{count_of, one}
 use Rattle.turns.specs.Listed.{list_of}
 use Rattle.judgement.specs.Sheet.{clause, clauses, problem_of, variables}
 use Rattle.judgement.specs.Writer.{joined, numbers_of}
-use Rattle.judgement.specs.declared.Finding.TheVariants.{Fine}
 use Rattle.judgement.proofs.Complete.Bytes.{length_numbers}
 use Rattle.judgement.proofs.Complete.Tables.{file_body, file_pairs, length_file}
 use Rattle.judgement.proofs.Laws.Buffer.{length_over}
@@ -260,7 +260,7 @@ model_is s α = (there, back)
 -- ---- all of it
 
 pub turning_done : (s turns : List ℕ) (b : Lent) → ValidSheet s → Enough s b → AllTurns (variables s) turns
-    → Turning s turns b (left_in Fine s turns b) (broken_total s (value_in (turned b.assignment turns)))
+    → Turning s turns b (left_in (Ok tt) s turns b) (broken_total s (value_in (turned b.assignment turns)))
 turning_done s turns b valid enough all =
     let every = every_of (variables s) turns all in
     let z = size s valid in

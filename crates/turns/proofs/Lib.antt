@@ -11,7 +11,6 @@ pub mod Whole
 pub mod Signs
 pub mod Walking
 pub mod Coding
-pub mod Steps
 pub mod Answers
 pub mod Stores
 pub mod When

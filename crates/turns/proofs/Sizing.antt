@@ -12,7 +12,7 @@ use Rattle.judgement.specs.Facts.{Among}
 use Rattle.judgement.specs.Number.{number_at}
 use Rattle.judgement.specs.Writer.{bytes_of, numbers_of}
 use Rattle.judgement.proofs.Complete.Bytes.{length_bytes}
-use Rattle.judgement.proofs.Laws.Patch.{at_append, at_nothing, at_number, kept_same, number_clear, number_kept, number_long, number_there}
+use Rattle.judgement.proofs.Laws.Patch.{at_append, at_nothing, at_number, number_clear, number_kept, number_long, number_there}
 use Rattle.judgement.proofs.Laws.Scan.{sum_last}
 use Rattle.turns.specs.Index.{Lists, PlacedTo, Raises, Sizes, raised, start_of}
 use Rattle.turns.proofs.Lists.{either}
@@ -72,10 +72,6 @@ pub record ClearTo (n v : ℕ) (l₀ l : List ℕ) : Type 0 where
   pub clear : (u : ℕ) → Among v u → At l (8 * (u - 1) + 4) (bytes_of 4 0)
   pub kept : Kept (8 * n) l₀ l
 
-pub clear_start : (n : ℕ) (l : List ℕ) → ClearTo n 0 l l
-clear_start n l =
-    record { within = omega arith; clear = λ u w. absurd (omega (arith, w.0, w.1)); kept = kept_same (8 * n) l }
-
 pub clear_turn : (n v : ℕ) (l₀ l r : List ℕ) → 8 * n ≤ length l₀ → v < n → ClearTo n v l₀ l → r ≡ patch (8 * v + 4) (bytes_of 4 0) l
     → ClearTo n (v + 1) l₀ r
 clear_turn n v l₀ l r room h c e =
@@ -91,15 +87,6 @@ clear_turn n v l₀ l r room h c e =
           (inl (rw (length_bytes 4 0) (omega (arith, w.0, w.1, d)))) (c.clear u (w.0, omega (arith, w.1, d))));
       kept = number_kept 4 (8 * v + 4) 0 l f (8 * n) l₀ (omega arith) c.kept;
     })
-
-pub clear_done : (n v : ℕ) (l₀ l : List ℕ) (f : ℕ → ℕ) → 8 * n ≤ length l₀ → n ≤ v → ((u : ℕ) → f u ≡ 0) → ClearTo n v l₀ l → Sizes n f l
-clear_done n v l₀ l f room h zeros c =
-    let z = c.kept.long in
-    let i = c.within in
-    record {
-      sizes = λ u w. (let y : 4 * f u ≡ 0 = omega (arith, zeros u) in rw y (c.clear u (w.0, omega (arith, w.1))));
-      room = omega arith;
-    }
 
 -- ---- pairs placed
 
@@ -134,9 +121,6 @@ module _ (n : ℕ) (size : ℕ → ℕ) (v : ℕ) (l : List ℕ) (room : 8 * n �
 
   f2 : 8 * v + 4 + 4 ≤ length q
   f2 = rw (eq, number_long 4 (8 * v) next l f1) (omega arith)
-
-  pub placed_long : length r ≡ length l
-  placed_long = rw (er, number_long 4 (8 * v + 4) 0 q f2, eq) (number_long 4 (8 * v) next l f1)
 
   pub placed_kept : (l₀ : List ℕ) → Kept (8 * n) l₀ l → Kept (8 * n) l₀ r
   placed_kept l₀ k =

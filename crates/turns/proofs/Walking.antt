@@ -316,10 +316,3 @@ fresh_turn s α k total x z l₀ l r room more h ex ez er =
       most = omega (arith, ez);
       kept = patch_kept (2 * k) (bytes_of 2 x) l f (2 * clauses s) l₀ (rw (length_bytes 2 x) (omega arith)) h.kept;
     })
-
-pub fresh_done : (s : List ℕ) (α : Assignment) (k total : ℕ) (l₀ l : List ℕ) → clauses s ≤ k → FreshTo s α k total l₀ l
-    → CountedFor s α total l × Kept (2 * clauses s) l₀ l
-fresh_done s α k total l₀ l d h =
-    let i = h.within in
-    let e : k ≡ clauses s = omega arith in
-    (rw e at h.counted, h.kept)

@@ -10,10 +10,9 @@ use borrow.Author.Tests.{le-leb, leb-true}
 use lib.Dec.{leb}
 use lib.ListN.{get_or, length}
 use Rattle.judgement.specs.Facts.{Among, ValidSheet}
-use Rattle.judgement.specs.Finding.{◌then◌, is_fine, need, over_all}
+use Rattle.std.specs.Prelude.{Ok, Err}
+use Rattle.judgement.specs.Finding.{Finding, fault, ◌then◌, is_fine, need, over_all}
 use Rattle.judgement.specs.Sheet.{alone_finding, variables}
-use Rattle.judgement.specs.declared.Finding.{Finding}
-use Rattle.judgement.specs.declared.Finding.TheVariants.{Fault, Fine}
 use Rattle.judgement.proofs.Facts.Alone.{judge_alone}
 use Rattle.judgement.proofs.Facts.Layouts.{alone_number, alone_valid, valid_alone}
 use Rattle.judgement.proofs.Laws.Findings.{IsFine, fine_is, need_true, not_fine, over_each, over_found, over_of}
@@ -33,27 +32,27 @@ turn_test n turns i p =
       leb-true (get_or turns (i - 1) 0) n (and_r (leb 1 (get_or turns (i - 1) 0)) (leb (get_or turns (i - 1) 0) n) t),
     )
 
-test_turn : (n : ℕ) (turns : List ℕ) (i : ℕ) → Among n (get_or turns (i - 1) 0) → wrong_turn n turns i ≡ Fine
+test_turn : (n : ℕ) (turns : List ℕ) (i : ℕ) → Among n (get_or turns (i - 1) 0) → wrong_turn n turns i ≡ Ok tt
 unfolding wrong_turn
 test_turn n turns i w = rw (le-leb 1 (get_or turns (i - 1) 0) w.0, le-leb (get_or turns (i - 1) 0) n w.1)
 
 -- a fault of turn i is 30 at i
-turn_fault : (n : ℕ) (turns : List ℕ) (i N P : ℕ) → wrong_turn n turns i ≡ Fault N P → Fault 30 i ≡ Fault N P
+turn_fault : (n : ℕ) (turns : List ℕ) (i N P : ℕ) → wrong_turn n turns i ≡ fault N P → fault 30 i ≡ fault N P
 unfolding wrong_turn
 turn_fault n turns i N P e = go (leb 1 (get_or turns (i - 1) 0) && leb (get_or turns (i - 1) 0) n) e
   where
-    go : (b : Bool) → need b 30 i ≡ Fault N P → Fault 30 i ≡ Fault N P
+    go : (b : Bool) → need b 30 i ≡ fault N P → fault 30 i ≡ fault N P
     go true q = absurd (not_fine q)
     go false q = q
 
-pub all_fine : (n : ℕ) (turns : List ℕ) → AllTurns n turns → over_all (wrong_turn n turns) (length turns) ≡ Fine
+pub all_fine : (n : ℕ) (turns : List ℕ) → AllTurns n turns → over_all (wrong_turn n turns) (length turns) ≡ Ok tt
 all_fine n turns all = fine_is (over_all (wrong_turn n turns) (length turns)) (over_of (wrong_turn n turns) (length turns) (λ i w. rw (test_turn n turns i (all i w))))
 
-pub fine_all : (n : ℕ) (turns : List ℕ) → over_all (wrong_turn n turns) (length turns) ≡ Fine → AllTurns n turns
+pub fine_all : (n : ℕ) (turns : List ℕ) → over_all (wrong_turn n turns) (length turns) ≡ Ok tt → AllTurns n turns
 fine_all n turns e i w = turn_test n turns i (over_each (wrong_turn n turns) (length turns) (rw e) i w)
 
-first_found : (n : ℕ) (turns : List ℕ) (N P : ℕ) → over_all (wrong_turn n turns) (length turns) ≡ Fault N P
-    → (i : ℕ) × FirstWrong n turns i × (Fault 30 i ≡ Fault N P)
+first_found : (n : ℕ) (turns : List ℕ) (N P : ℕ) → over_all (wrong_turn n turns) (length turns) ≡ fault N P
+    → (i : ℕ) × FirstWrong n turns i × (fault 30 i ≡ fault N P)
 first_found n turns N P e =
     let (i, w, before, here) = over_found (wrong_turn n turns) (length turns) N P e in (
       i,
@@ -70,7 +69,7 @@ first_found n turns N P e =
 abbrev room_in : List ℕ → Lent → Bool
 room_in s b = has_room s (length b.assignment) (length b.index) (length b.counts)
 
-enough_is : (s : List ℕ) (b : Lent) → room_in s b ≡ true → Enough s b
+pub enough_is : (s : List ℕ) (b : Lent) → room_in s b ≡ true → Enough s b
 enough_is s b e =
     let r = room_is s (length b.assignment) (length b.index) (length b.counts) e in
     record { assignment = r.assignment; index = r.index; counts = r.counts }
@@ -83,10 +82,10 @@ is_enough s b r =
 -- ---- which of the four it is, by the finding
 
 pub data Case (s turns : List ℕ) (b : Lent) (f : Finding) : Type 0 where
-  done : ValidSheet s → Enough s b → AllTurns (variables s) turns → f ≡ Fine → Case s turns b f
-  short : ValidSheet s → (Enough s b → ⊥) → f ≡ Fault 29 0 → Case s turns b f
-  wrong : ValidSheet s → Enough s b → (i : ℕ) → FirstWrong (variables s) turns i → f ≡ Fault 30 i → Case s turns b f
-  unfit : (N P : ℕ) → (ValidSheet s → ⊥) → alone_finding s ≡ Fault N P → f ≡ Fault N P → Case s turns b f
+  done : ValidSheet s → Enough s b → AllTurns (variables s) turns → f ≡ Ok tt → Case s turns b f
+  short : ValidSheet s → (Enough s b → ⊥) → f ≡ fault 29 0 → Case s turns b f
+  wrong : ValidSheet s → Enough s b → (i : ℕ) → FirstWrong (variables s) turns i → f ≡ fault 30 i → Case s turns b f
+  unfit : (N P : ℕ) → (ValidSheet s → ⊥) → alone_finding s ≡ fault N P → f ≡ fault N P → Case s turns b f
 
 pub case_of : (s turns : List ℕ) (b : Lent) → Case s turns b (turn_finding s turns b)
 unfolding turn_finding lent_finding no_room
@@ -96,11 +95,11 @@ case_of s turns b =
   where
     go : (f : Finding) → alone_finding s ≡ f → (room_in s b ≡ true) ⊎ (room_in s b ≡ false) → (g : Finding)
         → over_all (wrong_turn (variables s) turns) (length turns) ≡ g → Case s turns b (f then (need (room_in s b) 29 0 then g))
-    go (Fault N P) e r g q = unfit N P (λ v. true≢false (sym (valid_alone s v) ∙ ap is_fine e)) e refl
-    go Fine e (inr n) g q = short (alone_valid s (ap is_fine e)) (λ h. true≢false (sym (is_enough s b h) ∙ n)) (rw n)
-    go Fine e (inl y) Fine q = done (alone_valid s (ap is_fine e)) (enough_is s b y) (fine_all (variables s) turns q) (rw y)
-    go Fine e (inl y) (Fault N P) q =
-        let (i, first, z) = first_found (variables s) turns N P q in
+    go (Err x) e r g q = unfit x.number x.place (λ v. true≢false (sym (valid_alone s v) ∙ ap is_fine e)) e refl
+    go (Ok _) e (inr n) g q = short (alone_valid s (ap is_fine e)) (λ h. true≢false (sym (is_enough s b h) ∙ n)) (rw n)
+    go (Ok _) e (inl y) (Ok _) q = done (alone_valid s (ap is_fine e)) (enough_is s b y) (fine_all (variables s) turns q) (rw y)
+    go (Ok _) e (inl y) (Err x) q =
+        let (i, first, z) = first_found (variables s) turns x.number x.place q in
         wrong (alone_valid s (ap is_fine e)) (enough_is s b y) i first (rw (y, z))
 
 module _ (s turns : List ℕ) (b : Lent) where
@@ -151,7 +150,7 @@ module _ (s turns : List ℕ) (b : Lent) where
     stays = λ z. refl;
   }
 
-  when_unfit : (N P : ℕ) → (ValidSheet s → ⊥) → alone_finding s ≡ Fault N P → TurnedWhen s turns b (record { number = N; place = P; total = 0 }) b
+  when_unfit : (N P : ℕ) → (ValidSheet s → ⊥) → alone_finding s ≡ fault N P → TurnedWhen s turns b (record { number = N; place = P; total = 0 }) b
   when_unfit N P u e =
       let n = alone_number s N P e in
       record {
@@ -172,7 +171,7 @@ unfolding turning left
 turned_when s turns b l r er el = by_case (case_of s turns b)
   where
     by_case : Case s turns b (turn_finding s turns b) → TurnedWhen s turns b r l
-    by_case (done v h all e) = rw (er, el, e) (when_done s turns b v h all (broken_total s (value_in (turned b.assignment turns))) (left_in Fine s turns b))
+    by_case (done v h all e) = rw (er, el, e) (when_done s turns b v h all (broken_total s (value_in (turned b.assignment turns))) (left_in (Ok tt) s turns b))
     by_case (short v none e) = rw (er, el, e) (when_short s turns b v none)
     by_case (wrong v h i w e) = rw (er, el, e) (when_wrong s turns b v h i w)
     by_case (unfit N P u a e) = rw (er, el, e) (when_unfit s turns b N P u a)

@@ -1,6 +1,6 @@
 -- The counts while variables are turned.
 -- Assumes nothing.
-use Rattle.std.specs.Prelude.{ℕ, ◌+◌, ◌-◌, ◌*◌, ◌≤◌, ◌<◌, ◌≡◌, Bool, true, false, not, List, length, get_or, eqb}
+use Rattle.std.specs.Prelude.{ℕ, ◌+◌, ◌-◌, ◌*◌, ◌≤◌, ◌<◌, ◌≡◌, Bool, true, false, not, List, length, eqb, Option, Some, None, Result, Ok, Err}
 use Rattle.judgement.specs.Scan.{sum_of, one}
 use Rattle.judgement.specs.Meaning.{Assignment, positive}
 use Rattle.judgement.specs.Number.{number_at}
@@ -9,8 +9,9 @@ use Rattle.judgement.specs.Sheet.{clauses, clause}
 use Rattle.judgement.specs.Writer.{bytes_of}
 use Rattle.judgement.specs.Buffer.{At, patch}
 use Rattle.judgement.specs.Facts.{Among}
-use Rattle.judgement.specs.declared.Finding.{Finding}
-use Rattle.judgement.specs.Finding.{need}
+use Rattle.judgement.specs.Finding.{Finding, fault}
+use Rattle.turns.specs.declared.Refused.{Refused}
+use Rattle.turns.specs.declared.Turned.{Turned}
 use Rattle.turns.specs.Turning.{true_in}
 
 -- a literal is true where its variable has this value: of a positive one, and of a negative one
@@ -53,10 +54,12 @@ pub record Touched (up : Bool) (at total r : ℕ) (l left : List ℕ) : Type 0 w
   pub counts : left ≡ patch at (bytes_of 2 (stepped up (number_at l at 2))) l
   pub sum : r ≡ total + at_zero (stepped up (number_at l at 2)) - at_zero (number_at l at 2)
 
--- each turn is of a variable from 1 to n
-abbrev pub AllAmong : ℕ → List ℕ → Type 0
-AllAmong n turns = (i : ℕ) → i < length turns → Among n (get_or turns i 0)
+-- what the place of the first wrong turn says, where there is one
+abbrev pub wrong_at : Option ℕ → Finding
+wrong_at None = Ok tt
+wrong_at (Some place) = fault 30 place
 
--- what the place of the first wrong turn says; 0 for none
-abbrev pub wrong_at : ℕ → Finding
-wrong_at r = need (eqb r 0) 30 r
+-- the answer of a total, or of a refusal
+abbrev pub answer_by : Result ℕ Refused → Turned
+answer_by (Ok total) = record { number = 0; place = 0; total = total }
+answer_by (Err x) = record { number = x.number; place = x.place; total = 0 }

@@ -1,10 +1,9 @@
 -- What is promised of turning: which answer comes when, what the three buffers hold then, and that neither the order of the turns matters
 -- nor a variable that is turned twice.
 -- Assumes nothing.
-use Rattle.std.specs.Prelude.{ℕ, ◌+◌, ◌-◌, ◌*◌, ◌/◌, ◌%◌, ◌≤◌, ◌<◌, ◌≡◌, Bool, not, cond, List, [], ◌∷◌, ◌++◌, ◌↔◌, ◌≢◌, length, get_or, take, drop, eqb}
+use Rattle.std.specs.Prelude.{ℕ, ◌+◌, ◌-◌, ◌*◌, ◌/◌, ◌%◌, ◌≤◌, ◌<◌, ◌≡◌, Bool, not, cond, List, [], ◌∷◌, ◌++◌, ◌↔◌, ◌≢◌, length, get_or, take, drop, eqb, Ok}
 use Rattle.judgement.specs.Scan.{one}
 use Rattle.judgement.specs.Meaning.{Satisfies, Model}
-use Rattle.judgement.specs.declared.Finding.TheVariants.{Fine}
 use Rattle.judgement.specs.Number.{number_at}
 use Rattle.judgement.specs.Pairs.{body}
 use Rattle.judgement.specs.Sheet.{most_bytes, variables, clauses, clause, problem_of}
@@ -113,7 +112,7 @@ pub data Reordered : List ℕ → List ℕ → Type 0 where
 -- two lists of turns come to the same answer and leave the same in every three buffers that are long enough for one of them
 abbrev pub SameTurns : List ℕ → List ℕ → List ℕ → Type 0
 SameTurns s turns others =
-    (b : Lent) → turn_finding s turns b ≡ Fine → (turning s turns b ≡ turning s others b) × (left s turns b ≡ left s others b)
+    (b : Lent) → turn_finding s turns b ≡ Ok tt → (turning s turns b ≡ turning s others b) × (left s turns b ≡ left s others b)
 
 pub record TurnLaws (s : List ℕ) : Type 0 where
   -- the order does not matter

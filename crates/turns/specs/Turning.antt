@@ -2,13 +2,11 @@
 -- what the three lent buffers hold after it. Nothing but `turned` knows of single turns: the index is the sheet's, and counts and total
 -- are those of the assignment that is left.
 -- Assumes nothing.
-use Rattle.std.specs.Prelude.{ℕ, ◌+◌, ◌-◌, ◌*◌, ◌/◌, ◌%◌, ◌^◌, Bool, cond, ◌&&◌, List, [], ◌∷◌, length, get_or, set, eqb, leb}
+use Rattle.std.specs.Prelude.{ℕ, ◌+◌, ◌-◌, ◌*◌, ◌/◌, ◌%◌, ◌^◌, Bool, cond, ◌&&◌, List, [], ◌∷◌, length, get_or, set, eqb, leb, Ok, Err}
 use Rattle.judgement.specs.Scan.{sum_of, count_of}
 use Rattle.turns.specs.Listed.{list_of, chosen}
 use Rattle.judgement.specs.Meaning.{Assignment, literal_true}
-use Rattle.judgement.specs.declared.Finding.{Finding}
-use Rattle.judgement.specs.declared.Finding.TheVariants.{Fine, Fault}
-use Rattle.judgement.specs.Finding.{need, ◌then◌, over_all}
+use Rattle.judgement.specs.Finding.{Finding, need, ◌then◌, over_all}
 use Rattle.judgement.specs.Literals.{count, code, mentions}
 use Rattle.judgement.specs.Sheet.{variables, clauses, clause, alone_finding}
 use Rattle.judgement.specs.Record.{assignment_size, bit}
@@ -100,13 +98,13 @@ turn_finding s turns b = alone_finding s then lent_finding s turns b
 
 -- the answer of this finding; a refusal has total 0
 abbrev pub answer_of : Finding → ℕ → Turned
-answer_of Fine total = record { number = 0; place = 0; total = total }
-answer_of (Fault number place) total = record { number = number; place = place; total = 0 }
+answer_of (Ok _) total = record { number = 0; place = 0; total = total }
+answer_of (Err x) total = record { number = x.number; place = x.place; total = 0 }
 
 -- the assignment after this finding
 abbrev pub assignment_by : Finding → List ℕ → List ℕ → List ℕ
-assignment_by Fine turns a = turned a turns
-assignment_by (Fault number place) turns a = a
+assignment_by (Ok _) turns a = turned a turns
+assignment_by (Err x) turns a = a
 
 -- what this finding leaves in the buffers
 abbrev pub left_in : Finding → List ℕ → List ℕ → Lent → Lent

@@ -1,4 +1,4 @@
-// The assignment, and the counts taken afresh from it.
+// The assignment, and the counts taken afresh from it. `ValidSheet` stays in the contracts, as in index.
 ghost use Rattle.std.specs.Prelude.{◌≡◌, cond, ◌-◌, ◌*◌, ◌/◌, ◌≤◌, ◌<◌, length};
 ghost use Rattle.judgement.specs.Scan.{one};
 ghost use Rattle.judgement.specs.Meaning.{literal_true};
@@ -11,6 +11,7 @@ ghost use Rattle.turns.specs.Counts.{at_zero, CountedFor};
 
 use crate::place;
 
+#[tactic(auto, using(crate::proofs::Coding::bit_read))]
 pub(crate) fn is_true(a: &[u8], v: usize) -> bool
     requires { (1 ≤ v) × ((v - 1) / 8 < length a.now) }
     ensures { result ≡ value_in a.now v }
@@ -21,6 +22,7 @@ pub(crate) fn is_true(a: &[u8], v: usize) -> bool
 }
 
 // Variable v the other way.
+#[tactic(auto, using(crate::proofs::Coding::bit_turned))]
 pub(crate) fn flip(a: &mut [u8], v: usize)
     requires { (1 ≤ v) × ((v - 1) / 8 < length a.old) }
     ensures { a.new ≡ turn a.old v }
@@ -31,25 +33,12 @@ pub(crate) fn flip(a: &mut [u8], v: usize)
     a[at] = byte ^ (1 << (i % 8));
 }
 
+#[tactic(auto, unfolding(judgement::specs::Meaning::literal_true))]
 fn is_literal_true(a: &[u8], c: u16) -> bool
     requires { (1 ≤ c / 2) × ((c / 2 - 1) / 8 < length a.now) }
     ensures { result ≡ literal_true (value_in a.now) c }
 {
-    let value = is_true(a, (c / 2) as usize);
-    if c % 2 == 0 {
-        return value;
-    }
-    !value
-}
-
-// 1 for a true literal.
-fn one(b: bool) -> u16
-    ensures { (result ≡ one b) × (result ≤ 1) }
-{
-    if b {
-        return 1;
-    }
-    0
+    is_true(a, (c / 2) as usize) == (c % 2 == 0)
 }
 
 // How many literals of clause k are true.
@@ -60,22 +49,10 @@ fn true_in(s: &[u8], a: &[u8], k: u32) -> u16
     let part = sheet::clause_of(s, k);
     let q = part.len() / 2;
     let mut sum: u16 = 0;
-    let mut i = 0;
-    while i < q {
-        sum += one(is_literal_true(a, place::u16_at(part, 2 * i)));
-        i += 1;
+    for i in 0..q {
+        sum += u16::from(is_literal_true(a, place::u16_at(part, 2 * i)));
     }
     sum
-}
-
-// 1 for a count of 0.
-pub(crate) fn zero_of(x: u16) -> usize
-    ensures { (result ≡ at_zero x) × (result ≤ 1) }
-{
-    if x == 0 {
-        return 1;
-    }
-    0
 }
 
 // The counts of the assignment; answers how many are 0.
@@ -86,12 +63,10 @@ pub(crate) fn count_afresh(s: &[u8], a: &[u8], counts: &mut [u8]) -> usize
 {
     let m = sheet::clause_count(s);
     let mut total: usize = 0;
-    let mut k: u32 = 0;
-    while k < m {
+    for k in 0..m {
         let x = true_in(s, a, k + 1);
         place::put_u16(counts, 2 * (k as usize), x);
-        total += zero_of(x);
-        k += 1;
+        total += usize::from(x == 0);
     }
     total
 }

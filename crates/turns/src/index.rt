@@ -3,6 +3,10 @@
 //
 // While variables are turned, an entry is twice the clause's number, and one more where the clause has the variable's negative literal:
 // so no turn has to look into a clause. In the end the entries are halved, and the index is the sheet's.
+//
+// `ValidSheet s.now` stays in the contracts, and that k is a clause's number: a function here has no other fact of the sheet, so that a
+// struct as in walk would take one out and make each `s.now` of an `ensures` an `s.entry.sheet.now`.
+// The facts of the index stay: where a struct holds a `&mut`, a caller's proof has no more than the lengths of what is behind it (tried).
 ghost use Rattle.std.specs.Prelude.{◌≡◌, ◌-◌, ◌*◌, ◌≤◌, length};
 ghost use Rattle.judgement.specs.Sheet.{variables, clauses};
 ghost use Rattle.judgement.specs.Buffer.{over, Kept};
@@ -13,6 +17,7 @@ ghost use Rattle.turns.specs.Index.{filed, Takes, Sizes, raised, Raises, SizedTo
 use crate::place;
 
 // The length of the pair of v, raised by one entry.
+#[tactic(auto, using(crate::proofs::Sizing::raised_by))]
 fn raise(index: &mut [u8], v: usize)
     requires { Raises v index.old }
     ensures { index.new ≡ raised v index.old }
@@ -30,11 +35,9 @@ fn count_clause(s: &[u8], k: u32, index: &mut [u8])
 {
     let part = sheet::clause_of(s, k);
     let q = part.len() / 2;
-    let mut i = 0;
-    while i < q {
+    for i in 0..q {
         let v = place::u16_at(part, 2 * i) / 2;
         raise(index, v as usize);
-        i += 1;
     }
 }
 
@@ -43,10 +46,8 @@ fn clear_sizes(n: usize, index: &mut [u8])
     requires { (n ≤ 1024) × (8 * n ≤ length index.old) }
     ensures { Sizes n (λ v. 0) index.new × Kept (8 * n) index.old index.new }
 {
-    let mut v = 0;
-    while v < n {
+    for v in 0..n {
         place::put_u32(index, 8 * v + 4, 0);
-        v += 1;
     }
 }
 
@@ -58,10 +59,8 @@ fn count_sizes(s: &[u8], index: &mut [u8])
 {
     clear_sizes(sheet::variable_count(s) as usize, index);
     let m = sheet::clause_count(s);
-    let mut k: u32 = 0;
-    while k < m {
+    for k in 0..m {
         count_clause(s, k + 1, index);
-        k += 1;
     }
 }
 
@@ -73,18 +72,17 @@ fn place_lists(s: &[u8], index: &mut [u8])
 {
     let n = sheet::variable_count(s) as usize;
     let mut next = 8 * n;
-    let mut v = 0;
-    while v < n {
+    for v in 0..n {
         let at = 8 * v;
         let size = place::u32_at(index, at + 4);
         place::put_u32(index, at, next as u32);
         place::put_u32(index, at + 4, 0);
         next += size;
-        v += 1;
     }
 }
 
 // The entry x behind list v, and its length raised.
+#[tactic(auto, using(crate::proofs::Filling::filed_by))]
 fn file(index: &mut [u8], v: usize, x: u32)
     requires { Takes v index.old }
     ensures { index.new ≡ filed v x index.old }
@@ -104,11 +102,9 @@ fn fill_clause(s: &[u8], k: u32, index: &mut [u8])
 {
     let part = sheet::clause_of(s, k);
     let q = part.len() / 2;
-    let mut i = 0;
-    while i < q {
+    for i in 0..q {
         let c = place::u16_at(part, 2 * i);
         file(index, (c / 2) as usize, 2 * k + (c % 2) as u32);
-        i += 1;
     }
 }
 
@@ -119,10 +115,8 @@ fn fill(s: &[u8], index: &mut [u8])
         × Kept (index_end s.now) index.old index.new }
 {
     let m = sheet::clause_count(s);
-    let mut k: u32 = 0;
-    while k < m {
+    for k in 0..m {
         fill_clause(s, k + 1, index);
-        k += 1;
     }
 }
 
@@ -142,10 +136,9 @@ pub(crate) fn clear_signs(s: &[u8], end: usize, index: &mut [u8])
     requires { ValidSheet s.now × (end ≡ index_end s.now) × FilledTo s.now (clauses s.now) index.old }
     ensures { index.new ≡ over (index_of s.now) index.old }
 {
-    let mut at = 8 * (sheet::variable_count(s) as usize);
-    while at < end {
+    let start = 8 * (sheet::variable_count(s) as usize);
+    for at in (start..end).step_by(4) {
         let x = place::u32_at(index, at);
         place::put_u32(index, at, (x / 2) as u32);
-        at += 4;
     }
 }

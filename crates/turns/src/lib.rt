@@ -6,16 +6,16 @@ mod index;
 mod place;
 mod walk;
 
-ghost use Rattle.std.specs.Prelude.{◌≡◌, ◌*◌, ◌^◌, ◌≤◌, ◌<◌, length};
+ghost use Rattle.std.specs.Prelude.{◌≡◌, ◌^◌, ◌<◌, length, Err};
 ghost use Rattle.judgement.specs.Finding.{over_all};
-ghost use Rattle.judgement.specs.Sheet.{variables, clauses};
-ghost use Rattle.judgement.specs.Record.{assignment_size};
+ghost use Rattle.judgement.specs.Sheet.{variables};
 ghost use Rattle.judgement.specs.Facts.{ValidSheet};
-ghost use Rattle.turns.specs.Turning.{value_in, turned, broken_total, index_size, has_room, wrong_turn, lent_finding, answer_of, lent, left_in, turning, left};
-ghost use Rattle.turns.specs.Promises.{TurnedWhen, WhenDone, TurnLaws};
-ghost use Rattle.turns.specs.Counts.{AllAmong, wrong_at};
+ghost use Rattle.turns.specs.Turning.{value_in, turned, broken_total, index_size, has_room, wrong_turn, lent, left_in, turning, left};
+ghost use Rattle.turns.specs.Promises.{Enough, AllTurns, TurnedWhen, WhenDone, TurnLaws};
+ghost use Rattle.turns.specs.Counts.{wrong_at, answer_by};
 
-use judgement::Finding;
+use crate::walk::Indexed;
+use judgement::{Reason, Refusal};
 
 // The answer: `total` is how many clauses are broken. A refusal has total 0. With 30 the place is in the list of turns, which may be
 // longer than any other thing that has places.
@@ -26,7 +26,37 @@ pub struct Turned {
     pub total: usize,
 }
 
-// How many bytes the index has.
+// Why nothing is turned: a refusal as elsewhere, but the place of 30 may be past 32 bits.
+#[derive(Clone, Copy)]
+struct Refused {
+    number: u32,
+    place: usize,
+}
+
+impl From<Refusal> for Refused {
+    ghost from_gives = { λ x y. y ≡ record { number = x.number; place = x.place } };
+
+    fn from(refusal: Refusal) -> Refused {
+        Refused {
+            number: refusal.number,
+            place: refusal.place as usize,
+        }
+    }
+}
+
+impl From<Refused> for Turned {
+    ghost from_gives = { λ x t. t ≡ answer_by (Err x) };
+
+    fn from(refused: Refused) -> Turned {
+        Turned {
+            number: refused.number,
+            place: refused.place,
+            total: 0,
+        }
+    }
+}
+
+// How many bytes the index has. `ValidSheet` stays here and below, as in index.
 fn index_size(s: &[u8]) -> usize
     requires { ValidSheet s.now }
     ensures { (result ≡ index_size s.now) × (result < 2 ^ 32) }
@@ -34,22 +64,21 @@ fn index_size(s: &[u8]) -> usize
     let n = sheet::variable_count(s) as usize;
     let m = sheet::clause_count(s);
     let mut size = 8 * n;
-    let mut k: u32 = 0;
-    while k < m {
+    for k in 0..m {
         size += 4 * (sheet::clause_of(s, k + 1).len() / 2);
-        k += 1;
     }
     size
 }
 
 // Buffers of these sizes are long enough, where the index has `size` bytes.
+#[tactic(auto, using(crate::proofs::Answers::short_assignment, crate::proofs::Answers::short_index))]
 fn has_room(s: &[u8], size: usize, a: usize, i: usize, c: usize) -> bool
     requires { ValidSheet s.now × (size ≡ index_size s.now) }
     ensures { result ≡ has_room s.now a i c }
 {
     let n = sheet::variable_count(s) as usize;
     let m = sheet::clause_count(s) as usize;
-    if a < (n + 7) / 8 {
+    if a < n.div_ceil(8) {
         return false;
     }
     if i < size {
@@ -58,22 +87,17 @@ fn has_room(s: &[u8], size: usize, a: usize, i: usize, c: usize) -> bool
     2 * m <= c
 }
 
-// The place of the first turn that is not of a variable from 1 to n, or 0.
-fn first_wrong(turns: &[u16], n: usize) -> usize
+// The place of the first turn that is not of a variable from 1 to n.
+fn first_wrong(turns: &[u16], n: usize) -> Option<usize>
     ensures { over_all (wrong_turn n turns.now) (length turns.now) ≡ wrong_at result }
 {
-    let mut i = 0;
-    while i < turns.len() {
-        let v = turns[i] as usize;
-        if v < 1 {
-            return i + 1;
+    for (i, turn) in turns.iter().enumerate() {
+        let v = *turn as usize;
+        if v < 1 || n < v {
+            return Some(i + 1);
         }
-        if n < v {
-            return i + 1;
-        }
-        i += 1;
     }
-    0
+    None
 }
 
 // Index and counts built, the turns done, and the signs taken from the index again; answers the broken total.
@@ -85,69 +109,43 @@ fn run(
     index: &mut [u8],
     counts: &mut [u8],
 ) -> usize
-    requires { ValidSheet s.now × (end ≡ index_size s.now) × AllAmong (variables s.now) turns.now
-        × (assignment_size (variables s.now) ≤ length a.old) × (index_size s.now ≤ length index.old)
-        × (2 * clauses s.now ≤ length counts.old) }
+    requires { ValidSheet s.now × (end ≡ index_size s.now) × AllTurns (variables s.now) turns.now
+        × Enough s.now (lent a.old index.old counts.old) }
     ensures { (result ≡ broken_total s.now (value_in (turned a.old turns.now)))
-        × (lent a.new index.new counts.new
-        ≡ left_in Finding.Fine s.now turns.now (lent a.old index.old counts.old)) }
+        × (lent a.new index.new counts.new ≡ left_in (Ok tt) s.now turns.now (lent a.old index.old counts.old)) }
 {
     index::build(s, index);
     let afresh = counts::count_afresh(s, a, counts);
-    let total = walk::turn_all(s, a, turns, index, counts, afresh);
+    let total = walk::turn_all(Indexed { sheet: s, index }, a, turns, counts, afresh);
     index::clear_signs(s, end, index);
     total
 }
 
-// Refusals 29 and 30 of a valid sheet, then the turns.
-#[tactic(auto, using(crate::proofs::Answers::with_room, crate::proofs::Answers::wrong_some))]
-fn turn_valid(s: &[u8], a: &mut [u8], turns: &[u16], index: &mut [u8], counts: &mut [u8]) -> Turned
-    requires { ValidSheet s.now }
-    ensures { (result ≡ answer_of (lent_finding s.now turns.now (lent a.old index.old counts.old))
-        (broken_total s.now (value_in (turned a.old turns.now))))
-        × (lent a.new index.new counts.new
-        ≡ left_in (lent_finding s.now turns.now (lent a.old index.old counts.old))
-        s.now turns.now (lent a.old index.old counts.old)) }
+// The refusals in their order, then the turns; answers the broken total.
+// The three buffers stay apart: of a struct of them that goes on to `run`, the proof has no more than the lengths at the refusals (tried).
+fn turn_lent(
+    s: &[u8],
+    a: &mut [u8],
+    turns: &[u16],
+    index: &mut [u8],
+    counts: &mut [u8],
+) -> Result<usize, Refused>
+    ensures { (answer_by result ≡ turning s.now turns.now (lent a.old index.old counts.old))
+        × (lent a.new index.new counts.new ≡ left s.now turns.now (lent a.old index.old counts.old)) }
 {
+    sheet::alone_finding(s)?;
     let end = index_size(s);
     if !has_room(s, end, a.len(), index.len(), counts.len()) {
-        return Turned {
-            number: 29,
-            place: 0,
-            total: 0,
-        };
+        return Err(Reason::NoRoom.at(0).into());
     }
-    let wrong = first_wrong(turns, sheet::variable_count(s) as usize);
-    if wrong != 0 {
-        return Turned {
-            number: 30,
-            place: wrong,
-            total: 0,
-        };
+    let n = sheet::variable_count(s) as usize;
+    if let Some(place) = first_wrong(turns, n) {
+        return Err(Refused {
+            number: Reason::WrongTurn.number(),
+            place,
+        });
     }
-    let total = run(s, end, a, turns, index, counts);
-    Turned {
-        number: 0,
-        place: 0,
-        total: total,
-    }
-}
-
-fn refused(f: Finding) -> Turned
-    ensures { result ≡ answer_of f 0 }
-{
-    match f {
-        Finding::Fine => Turned {
-            number: 0,
-            place: 0,
-            total: 0,
-        },
-        Finding::Fault(number, place) => Turned {
-            number: number,
-            place: place as usize,
-            total: 0,
-        },
-    }
+    Ok(run(s, end, a, turns, index, counts))
 }
 
 // Turns each of the listed variables, in their order, in the assignment that is lent; builds the sheet's index and the counts of the true
@@ -155,6 +153,7 @@ fn refused(f: Finding) -> Turned
 // and 30 of a turn that is of no variable alter nothing. The answer and all that the buffers hold afterwards are the definitions'
 // (answer, buffers), which come to the facts of `when` and, where the turns are done, to those of `done`; the order of the turns does not
 // matter, and a variable turned twice stays as it was (laws).
+#[tactic(auto, using(crate::proofs::Laws::turn_laws))]
 pub fn turn(
     sheet: &[u8],
     assignment: &mut [u8],
@@ -171,9 +170,12 @@ pub fn turn(
         (lent assignment.new index.new counts.new) }
     ensures laws { TurnLaws sheet.now }
 {
-    let f = sheet::alone_finding(sheet);
-    if !layout::is_fine(f) {
-        return refused(f);
+    match turn_lent(sheet, assignment, turns, index, counts) {
+        Ok(total) => Turned {
+            number: 0,
+            place: 0,
+            total,
+        },
+        Err(refused) => refused.into(),
     }
-    turn_valid(sheet, assignment, turns, index, counts)
 }

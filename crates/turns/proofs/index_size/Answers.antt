@@ -2,20 +2,8 @@ use Rattle.turns.proofs.Answers.{size_start, size_one, size_turn, size_done}
 use native.Mathlib.Omega.{arith}
 use Rattle.turns.proofs.index_size.Goals as goal
 
-pub overflow_cast-n : goal.overflow_cast-n
-overflow_cast-n c = omega (arith, c.variable_count-n.ensures.1)
-
-pub overflow_mul-size : goal.overflow_mul-size
-overflow_mul-size c = omega (arith, c.variable_count-n.ensures.1)
-
 pub loop-k-init : goal.loop-k-init
 loop-k-init c = size_start c.args.s.now c.requires _ c.variable_count-n.ensures.0
-
-pub overflow_mul-size-in-loop-k : goal.overflow_mul-size-in-loop-k
-overflow_mul-size-in-loop-k c =
-    let l = c.loop-k in
-    let a = size_one c.args.s.now c.requires l.k _ (omega (arith, c.clause_count-m.ensures.0)) c.clause_of.ensures.bytes in
-    omega (arith, a)
 
 pub overflow_add-size : goal.overflow_add-size
 overflow_add-size c =

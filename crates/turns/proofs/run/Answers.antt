@@ -9,7 +9,7 @@ use Rattle.turns.proofs.run.Goals as goal
 pub build-requires : goal.build-requires
 build-requires c =
     let z = size_is c.args.s.now c.requires.0 in
-    (c.requires.0, omega (arith, z, c.requires.4))
+    (c.requires.0, omega (arith, z, c.requires.3.index))
 
 pub clear_signs-requires : goal.clear_signs-requires
 clear_signs-requires c = (c.requires.0, c.requires.1 ∙ size_is c.args.s.now c.requires.0, c.build.ensures.0)

@@ -29,9 +29,6 @@ loop-i-preserved c =
     (c.u16_at-v.ensures ∙ ap (λ (p : List ℕ). number_at p (2 * l.i) 2) c.clause_of-part.ensures.bytes) refl a.index.now l.index l.invariant in
     rw c.raise.ensures t
 
-pub shape_of-index : goal.shape_of-index
-shape_of-index c = c.loop-i.invariant.kept.long
-
 pub returns : goal.returns
 returns c =
     let a = c.args in

@@ -1,13 +1,10 @@
 -- `turns::index::count_sizes` meets its contract. The invariant: the lengths by the first k clauses.
 -- Assumes nothing.
-use Prim.Native.Nat.{◌-◌, ◌*◌, ◌≤◌}
+use Prim.Native.Nat.{◌*◌}
 use Rattle.judgement.specs.Sheet.{variables}
 use Rattle.judgement.specs.Buffer.{Kept}
 use Rattle.turns.specs.Index.{SizedTo}
 use Rattle.turns.proofs.index.count_sizes.Given as goal
 
 abbrev pub invariant-loop-k : goal.invariant-loop-k
-invariant-loop-k l = (l.k ≤ l.m) × SizedTo l.s l.k l.index × Kept (8 * variables l.s) l.initial.index l.index
-
-abbrev pub decreases-loop-k : goal.decreases-loop-k
-decreases-loop-k l = l.m - l.k
+invariant-loop-k l = SizedTo l.s l.k l.index × Kept (8 * variables l.s) l.initial.index l.index

@@ -1,12 +1,8 @@
 -- `turns::index::fill` meets its contract. The invariant: the lists by the first k clauses.
 -- Assumes nothing.
-use Prim.Native.Nat.{◌-◌, ◌≤◌}
 use Rattle.judgement.specs.Buffer.{Kept}
 use Rattle.turns.specs.Index.{FilledTo, index_end}
 use Rattle.turns.proofs.index.fill.Given as goal
 
 abbrev pub invariant-loop-k : goal.invariant-loop-k
-invariant-loop-k l = (l.k ≤ l.m) × FilledTo l.s l.k l.index × Kept (index_end l.s) l.initial.index l.index
-
-abbrev pub decreases-loop-k : goal.decreases-loop-k
-decreases-loop-k l = l.m - l.k
+invariant-loop-k l = FilledTo l.s l.k l.index × Kept (index_end l.s) l.initial.index l.index

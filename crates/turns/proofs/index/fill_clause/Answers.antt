@@ -12,16 +12,6 @@ loop-i-init c =
     let a = c.args in
     filling_start a.s.now a.k a.index.now c.requires.2
 
-pub overflow_mul-k : goal.overflow_mul-k
-overflow_mul-k c =
-    let m = c.requires.0.m in
-    omega (arith, c.requires.1.1, m)
-
-pub overflow_add-k : goal.overflow_add-k
-overflow_add-k c =
-    let m = c.requires.0.m in
-    omega (arith, c.requires.1.1, m)
-
 pub file-requires : goal.file-requires
 file-requires c =
     let a = c.args in
@@ -40,9 +30,6 @@ loop-i-preserved c =
     let z = entry_is a.s.now c.requires.0 a.k c.requires.1 l.i (omega (arith, e)) _ _
     (c.u16_at-c.ensures ∙ ap (λ (p : List ℕ). number_at p (2 * l.i) 2) c.clause_of-part.ensures.bytes) refl in
     rw (c.file.ensures, z) t
-
-pub shape_of-index : goal.shape_of-index
-shape_of-index c = c.loop-i.invariant.kept.long
 
 pub returns : goal.returns
 returns c =

@@ -8,23 +8,8 @@ loop-v-init c =
     let w = pairs_within a.s.now in
     (placing_start a.s.now a.index.now _ c.variable_count-n.ensures.0 c.requires.1, omega (arith, w, c.variable_count-n.ensures.0))
 
-pub u32_at-size-requires : goal.u32_at-size-requires
-u32_at-size-requires c =
-    let w = pairs_within c.args.s.now in
-    omega (arith, w, c.variable_count-n.ensures.0, c.loop-v.invariant.0.kept.long)
-
 pub overflow_cast-next : goal.overflow_cast-next
 overflow_cast-next c =
-    let e = end_small c.args.s.now c.requires.0 in
-    omega (arith, e, c.loop-v.invariant.1)
-
-pub put_u32-requires : goal.put_u32-requires
-put_u32-requires c =
-    let w = pairs_within c.args.s.now in
-    omega (arith, w, c.variable_count-n.ensures.0, c.loop-v.invariant.0.kept.long)
-
-pub overflow_add-next : goal.overflow_add-next
-overflow_add-next c =
     let e = end_small c.args.s.now c.requires.0 in
     omega (arith, e, c.loop-v.invariant.1)
 
@@ -35,9 +20,6 @@ loop-v-preserved c =
     let w = pairs_within a.s.now in
     placing_turn a.s.now c.requires.0 l.v l.next a.index.now l.index l.invariant.0 (omega (arith, c.variable_count-n.ensures.0)) _ _ _
     (omega (arith, w)) c.u32_at-size.ensures.0 c.put_u32.ensures c.put_u32-in-loop-v.ensures
-
-pub shape_of-index : goal.shape_of-index
-shape_of-index c = c.loop-v.invariant.0.kept.long
 
 pub returns : goal.returns
 returns c =

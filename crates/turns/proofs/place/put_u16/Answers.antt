@@ -1,12 +1,14 @@
--- `turns::place::put_u16` meets its contract. Two stores are one patch.
+-- `turns::place::put_u16` meets its contract.
 -- Assumes nothing.
+use mathlib.Core.Path.{◌∙◌}
 use native.Mathlib.Omega.{arith}
-use lib.ListN.{length-set}
-use Rattle.turns.proofs.Stores.{two_put}
+use Rattle.judgement.specs.Writer.{bytes_of}
+use Rattle.judgement.proofs.Complete.Bytes.{length_bytes}
+use Rattle.turns.proofs.Stores.{two_bytes, part_patch}
 use Rattle.turns.proofs.place.put_u16.Goals as goal
 
-pub bounds-out-at-2 : goal.bounds-out-at-2
-bounds-out-at-2 c = simp length-set (omega arith)
-
 pub returns : goal.returns
-returns c = two_put c.args.x c.args.at c.args.out.now (omega arith)
+returns c =
+    let a = c.args in
+    let z = length_bytes 2 a.x in
+    part_patch a.at _ a.out.now (bytes_of 2 a.x) _ (c.copy_from_slice.ensures.after ∙ c.to_le_bytes.ensures ∙ two_bytes a.x) (omega (arith, z))

@@ -1,18 +1,14 @@
--- `turns::place::put_u32` meets its contract. Four stores are one patch.
+-- `turns::place::put_u32` meets its contract.
 -- Assumes nothing.
+use mathlib.Core.Path.{◌∙◌}
 use native.Mathlib.Omega.{arith}
-use lib.ListN.{length-set}
-use Rattle.turns.proofs.Stores.{four_put}
+use Rattle.judgement.specs.Writer.{bytes_of}
+use Rattle.judgement.proofs.Complete.Bytes.{length_bytes}
+use Rattle.turns.proofs.Stores.{four_bytes, part_patch}
 use Rattle.turns.proofs.place.put_u32.Goals as goal
 
-pub bounds-out-at-2 : goal.bounds-out-at-2
-bounds-out-at-2 c = simp length-set (omega arith)
-
-pub bounds-out-at-3 : goal.bounds-out-at-3
-bounds-out-at-3 c = simp length-set (omega arith)
-
-pub bounds-out-at-4 : goal.bounds-out-at-4
-bounds-out-at-4 c = simp length-set (omega arith)
-
 pub returns : goal.returns
-returns c = four_put c.args.x c.args.at c.args.out.now (omega arith)
+returns c =
+    let a = c.args in
+    let z = length_bytes 4 a.x in
+    part_patch a.at _ a.out.now (bytes_of 4 a.x) _ (c.copy_from_slice.ensures.after ∙ c.to_le_bytes.ensures ∙ four_bytes a.x) (omega (arith, z))

@@ -1,6 +1,6 @@
 -- `turns::walk::turn_all` meets its contract. The invariant: the first i turns are done, and the counts are those of the assignment as it is.
 -- Assumes nothing.
-use Prim.Native.Nat.{◌-◌, ◌*◌, ◌≤◌}
+use Prim.Native.Nat.{◌*◌}
 use mathlib.Core.Path.{◌≡◌}
 use lib.ListN.{length, take}
 use Rattle.judgement.specs.Sheet.{clauses}
@@ -9,8 +9,5 @@ use Rattle.judgement.specs.Buffer.{Kept}
 use Rattle.turns.specs.Counts.{CountedFor}
 use Rattle.turns.proofs.walk.turn_all.Given as goal
 
-abbrev pub invariant-loop-i : goal.invariant-loop-i
-invariant-loop-i l = (l.i ≤ length l.turns) × (l.a ≡ turned l.initial.a (take l.i l.turns)) × CountedFor l.s (value_in l.a) l.sum l.counts × Kept (2 * clauses l.s) l.initial.counts l.counts × (length l.a ≡ length l.initial.a)
-
-abbrev pub decreases-loop-i : goal.decreases-loop-i
-decreases-loop-i l = length l.turns - l.i
+abbrev pub invariant-loop-v : goal.invariant-loop-v
+invariant-loop-v l = (l.a ≡ turned l.initial.a (take l.v-index l.turns)) × CountedFor l.x.sheet.now (value_in l.a) l.sum l.counts × Kept (2 * clauses l.x.sheet.now) l.initial.counts l.counts × (length l.a ≡ length l.initial.a)

@@ -6,4 +6,4 @@ use Rattle.turns.proofs.walk.turn_one.Goals as goal
 pub walk-requires : goal.walk-requires
 walk-requires c =
     let a = c.args in
-    (c.requires.0, c.requires.1, long_turned a.a.now _ _ a.v c.flip.ensures c.requires.2, c.requires.3, counted_back a.s.now a.a.now a.v a.total _ _ c.flip.ensures c.requires.4)
+    (c.requires.0, long_turned a.a.now _ _ a.v c.flip.ensures c.requires.1, counted_back a.x.sheet.now a.a.now a.v a.total _ _ c.flip.ensures c.requires.2)

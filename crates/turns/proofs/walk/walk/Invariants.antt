@@ -3,11 +3,7 @@
 -- Assumes nothing.
 use Rattle.turns.proofs.Walking.{WalkAt}
 use Rattle.turns.specs.Turning.{value_in, turn}
-use Prim.Native.Nat.{◌-◌}
 use Rattle.turns.proofs.walk.walk.Given as goal
 
 abbrev pub invariant-loop-j : goal.invariant-loop-j
-invariant-loop-j l = WalkAt l.s l.v (value_in (turn l.a l.v)) (value_in l.a) l.j l.sum l.initial.counts l.counts
-
-abbrev pub decreases-loop-j : goal.decreases-loop-j
-decreases-loop-j l = l.q - l.j
+invariant-loop-j l = WalkAt l.x.sheet.now l.v (value_in (turn l.a l.v)) (value_in l.a) l.j l.sum l.initial.counts l.counts
