@@ -1,82 +1,131 @@
 // The line that is printed for an answer, put at the beginning of a lent buffer. What stands behind it stays.
 #![tactic(auto)]
 
-ghost use Rattle.std.specs.Prelude.{◌≡◌, ◌++◌, ◌+◌, ◌≤◌, length, take};
+ghost use Rattle.std.specs.Prelude.{◌≡◌, ℕ, List, [], ◌++◌, ◌+◌, ◌≤◌, length, take};
+ghost use Rattle.lines.specs.declared.TheConstants.{LINE};
 ghost use Rattle.io.specs.Counts.{IsPrefixLen};
 ghost use Rattle.judgement.specs.Buffer.{over};
 ghost use Rattle.lines.specs.Lines.{decimal_of, least_line, none_line, within_line, refused_line, line_of};
 
 use judgement::{Answer, NONE};
+use std::marker::Model;
 
 // A buffer of this many bytes holds every line.
 pub const LINE: usize = 112;
 
-// Puts `word` after the first `at` bytes.
-fn put(out: &mut [u8], at: usize, word: &[u8])
-    requires { at + length word.now ≤ length out.old }
-    ensures bytes { out.new ≡ over (take at out.old ++ word.now) out.old }
-{
-    let mut i = 0;
-    while i < word.len() {
-        out[at + i] = word[i];
-        i += 1;
+// A line under way: the first `len` of the bytes. No vector of a fixed capacity from a library: it would be one more to believe.
+#[derive(Drop)]
+struct Text {
+    bytes: [u8; LINE],
+    len: usize,
+}
+
+impl Model for Text {
+    ghost Value = { List ℕ };
+
+    ghost view = { λ l. take l.len l.bytes };
+
+    ghost invariant = { λ l. l.len ≤ LINE };
+}
+
+impl Text {
+    fn new() -> Text
+        ensures { result ≡ [] }
+    {
+        Text {
+            bytes: [0; LINE],
+            len: 0,
+        }
+    }
+
+    fn put(&mut self, word: &[u8])
+        requires { length self.old + length word.now ≤ LINE }
+        ensures { self.new ≡ self.old ++ word.now }
+    {
+        let end = self.len + word.len();
+        self.bytes[self.len..end].copy_from_slice(word);
+        self.len = end;
+    }
+
+    // Puts `word` and then n, which has 20 digits at most. By `decimal`, whose contract says which digits, as a formatter's does not.
+    fn put_field(&mut self, word: &[u8], n: u64)
+        requires { length self.old + length word.now + 20 ≤ LINE }
+        ensures bytes { self.new ≡ self.old ++ word.now ++ decimal_of n }
+        ensures size { length self.new ≤ length self.old + length word.now + 20 }
+    {
+        self.put(word);
+        let mut digits = [0u8; 20];
+        let k = io::decimal(n, &mut digits);
+        self.put(&digits[..k]);
+    }
+
+    fn bytes(&self) -> &[u8]
+        ensures { result.now ≡ self.now }
+    {
+        &self.bytes[..self.len]
     }
 }
 
-// Puts `word` and then n, which has 20 digits at most, after the first `at` bytes, and answers where they end.
-fn put_field(out: &mut [u8], at: usize, word: &[u8], n: u64) -> usize
-    requires { at + length word.now + 20 ≤ length out.old }
-    ensures end { (result ≡ at + length word.now + length (decimal_of n)) × (result ≤ at + length word.now + 20) }
-    ensures bytes { out.new ≡ over (take at out.old ++ word.now ++ decimal_of n) out.old }
+#[tactic(auto, unfolding(crate::specs::Lines::least_line))]
+fn least_line(cost: u64, opens: u32, steps: u32) -> Text
+    ensures { result ≡ least_line cost opens steps }
 {
-    put(out, at, word);
-    let start = at + word.len();
-    let mut digits = [0u8; 20];
-    let k = io::decimal(n, &mut digits);
-    put(out, start, &digits[..k]);
-    start + k
+    let mut least = Text::new();
+    least.put_field(b"least ", cost);
+    least.put_field(b" open ", u64::from(opens));
+    least.put_field(b" steps ", u64::from(steps));
+    least.put(b"\n");
+    least
 }
 
-fn least_line(cost: u64, opens: u32, steps: u32, out: &mut [u8; LINE]) -> usize
-    ensures size { result ≡ length (least_line cost opens steps) }
-    ensures bytes { out.new ≡ over (least_line cost opens steps) out.old }
+#[tactic(auto, unfolding(crate::specs::Lines::none_line))]
+fn none_line(steps: u32) -> Text
+    ensures { result ≡ none_line steps }
 {
-    let a = put_field(out, 0, b"least ", cost);
-    let b = put_field(out, a, b" open ", opens as u64);
-    let c = put_field(out, b, b" steps ", steps as u64);
-    put(out, c, b"\n");
-    c + 1
+    let mut none = Text::new();
+    none.put_field(b"none open 0 steps ", u64::from(steps));
+    none.put(b"\n");
+    none
 }
 
-fn none_line(steps: u32, out: &mut [u8; LINE]) -> usize
-    ensures size { result ≡ length (none_line steps) }
-    ensures bytes { out.new ≡ over (none_line steps) out.old }
+#[tactic(auto, unfolding(crate::specs::Lines::within_line))]
+fn within_line(gap: u64, cost: u64, opens: u32, steps: u32) -> Text
+    ensures { result ≡ within_line gap cost opens steps }
 {
-    let a = put_field(out, 0, b"none open 0 steps ", steps as u64);
-    put(out, a, b"\n");
-    a + 1
+    let mut within = Text::new();
+    within.put_field(b"within ", gap);
+    within.put_field(b" cost ", cost);
+    within.put_field(b" open ", u64::from(opens));
+    within.put_field(b" steps ", u64::from(steps));
+    within.put(b"\n");
+    within
 }
 
-fn within_line(gap: u64, cost: u64, opens: u32, steps: u32, out: &mut [u8; LINE]) -> usize
-    ensures size { result ≡ length (within_line gap cost opens steps) }
-    ensures bytes { out.new ≡ over (within_line gap cost opens steps) out.old }
+#[tactic(auto, unfolding(crate::specs::Lines::refused_line))]
+fn refused_line(number: u32, place: u32) -> Text
+    ensures { result ≡ refused_line number place }
 {
-    let a = put_field(out, 0, b"within ", gap);
-    let b = put_field(out, a, b" cost ", cost);
-    let c = put_field(out, b, b" open ", opens as u64);
-    let d = put_field(out, c, b" steps ", steps as u64);
-    put(out, d, b"\n");
-    d + 1
+    let mut refused = Text::new();
+    refused.put_field(b"refused ", u64::from(number));
+    refused.put_field(b" at ", u64::from(place));
+    refused.put(b"\n");
+    refused
 }
 
-fn refused_line(number: u32, place: u32, out: &mut [u8; LINE]) -> usize
-    ensures size { result ≡ length (refused_line number place) }
-    ensures bytes { out.new ≡ over (refused_line number place) out.old }
+#[tactic(auto, unfolding(crate::specs::Lines::line_of, judgement::specs::Meaning::none))]
+fn line_of(a: Answer) -> Text
+    ensures { result ≡ line_of a }
 {
-    let a = put_field(out, 0, b"refused ", number as u64);
-    let b = put_field(out, a, b" at ", place as u64);
-    put(out, b, b"\n");
-    b + 1
+    if a.number != 0 {
+        return refused_line(a.number, a.place);
+    }
+    if a.gap != 0 {
+        return within_line(a.gap, a.cost, a.open_count, a.step_count);
+    }
+    if a.cost == NONE {
+        return none_line(a.step_count);
+    }
+    least_line(a.cost, a.open_count, a.step_count)
 }
 
 // Puts the line of an answer, and answers its length. The last clause lets a caller lend `&out[..r]`.
@@ -85,14 +134,8 @@ pub fn line(a: Answer, out: &mut [u8; LINE]) -> usize
     ensures bytes { out.new ≡ over (line_of a) out.old }
     ensures prefix_len { IsPrefixLen result out.new }
 {
-    if a.number != 0 {
-        return refused_line(a.number, a.place, out);
-    }
-    if a.gap != 0 {
-        return within_line(a.gap, a.cost, a.open_count, a.step_count, out);
-    }
-    if a.cost == NONE {
-        return none_line(a.step_count, out);
-    }
-    least_line(a.cost, a.open_count, a.step_count, out)
+    let line = line_of(a);
+    let text = line.bytes();
+    out[..text.len()].copy_from_slice(text);
+    text.len()
 }

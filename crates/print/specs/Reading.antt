@@ -1,16 +1,10 @@
--- What is known of a reading that ended in each way.
+-- What is known of a reading that has come to its end.
 -- Assumes nothing.
-use Rattle.std.specs.Prelude.{ℕ, ◌<◌, ◌≡◌, List, length}
+use Rattle.std.specs.Prelude.{ℕ, ◌<◌, List, length, Result, Ok, Err}
 use Rattle.io.specs.Counts.{IsPrefixLen}
-use Rattle.print.specs.declared.Ending.{Ending}
-use Rattle.print.specs.declared.Ending.TheVariants.{Whole, TooLong, Unreadable}
-use Rattle.print.specs.declared.Reading.{Reading}
+use Rattle.print.specs.declared.Trouble.{Trouble}
 
--- a whole file leaves room in the buffer, and one that is too long does not
-abbrev pub Room : Ending → ℕ → List ℕ → Type 0
-Room Whole size buf = size < length buf
-Room TooLong size buf = size ≡ length buf
-Room Unreadable size buf = Unit {0}
-
-abbrev pub Read : Reading → List ℕ → Type 0
-Read r buf = IsPrefixLen r.size buf × Room r.ending r.size buf
+-- a whole file leaves room in the buffer; of one that is too long or cannot be read nothing is used
+abbrev pub Read : Result ℕ Trouble → List ℕ → Type 0
+Read (Ok size) buf = IsPrefixLen size buf × (size < length buf)
+Read (Err trouble) buf = Unit {0}

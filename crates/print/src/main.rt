@@ -6,8 +6,8 @@ ghost use Rattle.io.specs.Counts.{IsPrefixLen};
 ghost use Rattle.print.specs.Reading.{Read};
 
 use std::fs::File;
-use std::io;
 use std::rt::Files;
+use std::{fmt, io};
 
 // The most bytes of a file that is judged.
 const MOST: usize = 65536;
@@ -15,21 +15,24 @@ const MOST: usize = 65536;
 // One byte more, so that a full buffer is a file that is too long.
 const SPACE: usize = MOST + 1;
 
+// Why a file cannot be judged.
 #[derive(Clone, Copy)]
-enum Ending {
-    Whole,
+enum Trouble {
     TooLong,
     Unreadable,
 }
 
-// How reading a file ended, and how many of its bytes stand at the start of the buffer.
-#[derive(Clone, Copy)]
-struct Reading {
-    ending: Ending,
-    size: usize,
+impl fmt::Display for Trouble {
+    fn fmt<W: fmt::Write>(&self, f: &mut fmt::Formatter<W>) -> fmt::Result {
+        f.write_str(match self {
+            Trouble::TooLong => "too long",
+            Trouble::Unreadable => "cannot read",
+        })
+    }
 }
 
-// Reads until the buffer is full or reading stops, and answers how many bytes were read.
+// Reads until the buffer is full or reading stops, and answers how many bytes were read. By hand: the sequence of reads is to stay
+// (docs/PORT.md), and of std's methods `read_exact` does not tell how many bytes came, and `read_to_end` allocates.
 fn read_full<R: io::Read>(reader: &mut R, buf: &mut [u8]) -> usize
     ensures { IsPrefixLen result buf.new }
 {
@@ -44,69 +47,28 @@ fn read_full<R: io::Read>(reader: &mut R, buf: &mut [u8]) -> usize
     size
 }
 
-// Reads until the buffer is full or reading stops. It stops at the end of the file or at a failure, and one more read tells
-// which: only at the end does it answer 0.
-fn read_all<R: io::Read>(reader: &mut R, buf: &mut [u8]) -> Reading
+// Reads until the buffer is full or reading stops, and answers how many bytes the file has. It stops at the end of the file or at
+// a failure, and one more read tells which: only at the end does it answer 0.
+fn read_all<R: io::Read>(reader: &mut R, buf: &mut [u8]) -> Result<usize, Trouble>
     ensures { Read result buf.new }
 {
     let size = read_full(reader, buf);
     if size == buf.len() {
-        return Reading {
-            ending: Ending::TooLong,
-            size,
-        };
+        return Err(Trouble::TooLong);
     }
     let mut rest = [0u8; 1];
     match reader.read(&mut rest) {
-        Ok(0) => Reading {
-            ending: Ending::Whole,
-            size,
-        },
-        _ => Reading {
-            ending: Ending::Unreadable,
-            size,
-        },
+        Ok(0) => Ok(size),
+        _ => Err(Trouble::Unreadable),
     }
 }
 
 // Reads the file of this name.
-fn read_file<R: Files>(rt: &R, name: &str, buf: &mut [u8]) -> Reading
+fn read_file<R: Files>(rt: &R, name: &str, buf: &mut [u8]) -> Result<usize, Trouble>
     ensures { Read result buf.new }
 {
-    match File::open(rt, name) {
-        Ok(mut file) => read_all(&mut file, buf),
-        Err(_) => Reading {
-            ending: Ending::Unreadable,
-            size: 0,
-        },
-    }
-}
-
-fn say<R: Print>(rt: &R, words: &str, name: &str) -> io::Result<()> {
-    println!(rt; "{words} {name}")
-}
-
-// Prints why a file cannot be judged, and answers whether there is a reason.
-fn complains<R: Print>(rt: &R, name: &str, reading: Reading) -> io::Result<bool> {
-    match reading.ending {
-        Ending::Whole => Ok(false),
-        Ending::TooLong => {
-            say(rt, "too long", name)?;
-            Ok(true)
-        }
-        Ending::Unreadable => {
-            say(rt, "cannot read", name)?;
-            Ok(true)
-        }
-    }
-}
-
-// Where both files fail, the sheet's message alone.
-fn complains_once<R: Print>(rt: &R, sheet: Reading, record: Reading) -> io::Result<bool> {
-    if complains(rt, "sheet", sheet)? {
-        return Ok(true);
-    }
-    complains(rt, "record", record)
+    let mut file = File::open(rt, name).map_err(|_| Trouble::Unreadable)?;
+    read_all(&mut file, buf)
 }
 
 fn print_answer<R: Print>(rt: &R, sheet: &[u8], record: &[u8]) -> io::Result<()> {
@@ -121,8 +83,10 @@ fn main(rt: HostRuntime) -> io::Result<()> {
     let mut record = [0u8; SPACE];
     let of_sheet = read_file(&rt, "sheet", &mut sheet);
     let of_record = read_file(&rt, "record", &mut record);
-    if complains_once(&rt, of_sheet, of_record)? {
-        return Ok(());
+    // where both files fail, the sheet's message alone
+    match (of_sheet, of_record) {
+        (Ok(a), Ok(b)) => print_answer(&rt, &sheet[..a], &record[..b]),
+        (Err(trouble), _) => println!(rt; "{trouble} sheet"),
+        (Ok(_), Err(trouble)) => println!(rt; "{trouble} record"),
     }
-    print_answer(&rt, &sheet[..of_sheet.size], &record[..of_record.size])
 }
