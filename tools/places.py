@@ -41,8 +41,10 @@ def functions(top):
     """Place, name, parameters and the facts of `requires` of each function."""
     for path in sources(top):
         text = open(path, encoding='utf-8').read()
-        for m in re.finditer(r'\bfn (\w+)(?:<[^(]*>)?\(([^)]*)\)([^{;]*(?:\{[^{}]*\}\s*(?=requires|ensures|\{))*)', text):
-            head = text[m.start():text.find('\n{', m.end(2)) + 1]
+        for m in re.finditer(r'\bfn (\w+)(?:<[^(]*>)?\(([^)]*)\)', text):
+            # the body's brace stands alone on its line, or behind the result
+            body = re.search(r'\n *\{\n|\{\n', text[m.end():])
+            head = text[m.start():m.end() + body.start() + 1] if body else m.group(0)
             facts = []
             for clause in re.findall(r'requires \{(.*?)\}\s*(?=\n)', head, re.S):
                 for fact in clause.split('×'):
@@ -90,7 +92,8 @@ HAND = (r'fn (lesser|flag|one|zero_of|is_less|both|either|need|first|compare_num
 
 def uncited(top):
     files = glob.glob(os.path.join(top, 'crates/*/proofs/*.antt')) + glob.glob(os.path.join(top, 'crates/*/proofs/*/*.antt'))
-    texts = [open(p, encoding='utf-8').read() for p in glob.glob(os.path.join(top, 'crates/**/*.antt'), recursive=True)]
+    texts = [open(p, encoding='utf-8').read() for p in glob.glob(os.path.join(top, 'crates/**/*.antt'), recursive=True)
+             if '/out/' not in p]
     texts += [open(p, encoding='utf-8').read() for p in sources(top)]
     words = collections.Counter(w for t in texts for w in re.findall(r"[\w≢≡'-]+", t))
     docs = ''.join(open(p, encoding='utf-8').read() for p in glob.glob(os.path.join(top, 'docs/*.md')) + [os.path.join(top, 'README.md')]
