@@ -1,5 +1,5 @@
 // The numbers of literals that stand, for 64 clauses at a time. That the number of a word is below 64, and a literal one of 64 variables, is
-// asked for by three functions each: a type for such a number would be made and taken apart at every step.
+// asked for by three functions of the crate each: a type for such a number would be made and taken apart at every step.
 ghost use Rattle.std.specs.Prelude.{◌≡◌, ℕ, ◌+◌, ◌*◌, ◌/◌, ◌%◌, ◌≤◌, ◌<◌, ◌&&◌, leb, get_or};
 ghost use Rattle.judgement.specs.Scan.{one, count_of};
 ghost use Rattle.judgement.specs.Facts.{Among};

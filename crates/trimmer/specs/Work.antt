@@ -88,5 +88,3 @@ pairs_to s r start k = pairs_of start (map (new_body s r) (chosen (kept s r) k))
 -- what stands before the pairs, which begin at `table`, for so many steps
 unfoldable pub head_bytes : List ℕ → ℕ → ℕ → List ℕ
 head_bytes r table count = take 8 r ++ bytes_of 4 count ++ take (table - 12) (drop 12 r)
-
--- ---- the answer
