@@ -15,18 +15,18 @@ const MOST: usize = 65536;
 // One byte more, so that a full buffer is a file that is too long.
 const SPACE: usize = MOST + 1;
 
-// Why a file cannot be judged.
+// Why a file cannot be judged, and how many of its bytes stand at the start of the buffer.
 #[derive(Clone, Copy)]
 enum Trouble {
-    TooLong,
-    Unreadable,
+    TooLong(usize),
+    Unreadable(usize),
 }
 
 impl fmt::Display for Trouble {
     fn fmt<W: fmt::Write>(&self, f: &mut fmt::Formatter<W>) -> fmt::Result {
         f.write_str(match self {
-            Trouble::TooLong => "too long",
-            Trouble::Unreadable => "cannot read",
+            Trouble::TooLong(_) => "too long",
+            Trouble::Unreadable(_) => "cannot read",
         })
     }
 }
@@ -54,12 +54,12 @@ fn read_all<R: io::Read>(reader: &mut R, buf: &mut [u8]) -> Result<usize, Troubl
 {
     let size = read_full(reader, buf);
     if size == buf.len() {
-        return Err(Trouble::TooLong);
+        return Err(Trouble::TooLong(size));
     }
     let mut rest = [0u8; 1];
     match reader.read(&mut rest) {
         Ok(0) => Ok(size),
-        _ => Err(Trouble::Unreadable),
+        _ => Err(Trouble::Unreadable(size)),
     }
 }
 
@@ -67,7 +67,7 @@ fn read_all<R: io::Read>(reader: &mut R, buf: &mut [u8]) -> Result<usize, Troubl
 fn read_file<R: Files>(rt: &R, name: &str, buf: &mut [u8]) -> Result<usize, Trouble>
     ensures { Read result buf.new }
 {
-    let mut file = File::open(rt, name).map_err(|_| Trouble::Unreadable)?;
+    let mut file = File::open(rt, name).map_err(|_| Trouble::Unreadable(0))?;
     read_all(&mut file, buf)
 }
 
