@@ -129,6 +129,7 @@ fn line_of(a: Answer) -> Text
 }
 
 // Puts the line of an answer, and answers its length. The last clause lets a caller lend `&out[..r]`.
+#[tactic(auto, using(crate::proofs::Texts::counts))]
 pub fn line(a: Answer, out: &mut [u8; LINE]) -> usize
     ensures size { result ≡ length (line_of a) }
     ensures bytes { out.new ≡ over (line_of a) out.old }
