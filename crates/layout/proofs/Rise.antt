@@ -108,3 +108,12 @@ module _ (n : ℕ) (part : List ℕ) (k : ℕ) (z : length part ≡ 2 * (k + 1))
       let f = lt-ltb 0 (variable part 1) (omega arith) in
       let t = le-leb (variable part (k + 1)) n (rw (← variable_next part k d) h) in
       rw (literals_ends, f, t, and-true)
+
+-- the first variable is held against 1
+pub none_first : (n : ℕ) (part : List ℕ) → length part % 2 ≡ 0 → 1 ≤ length part → number_at part 0 2 / 2 < 1 → literals_fine n part ≡ false
+none_first n part even some h = first_none n part (length part / 2 - 1) (omega arith) refl h
+
+-- the last variable is held against n
+pub beyond_last : (n : ℕ) (part : List ℕ) → length part % 2 ≡ 0 → 1 ≤ length part → n < number_at part (2 * (length part / 2 - 1)) 2 / 2
+    → literals_fine n part ≡ false
+beyond_last n part even some h = last_beyond n part (length part / 2 - 1) (omega arith) refl h
