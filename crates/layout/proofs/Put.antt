@@ -18,6 +18,10 @@ four_bytes x =
     let f : x / 65536 / 256 ≡ x / 16777216 = omega arith in
     rw (e, f)
 
+-- what is too short stays
+pub too_short : (width x : ℕ) (l : List ℕ) → length l < width → l ≡ put (bytes_of width x) l
+too_short width x l h = let z = length_bytes width x in sym (put_short (bytes_of width x) l (omega (arith, z)))
+
 room_for : (width x : ℕ) (l : List ℕ) → width ≤ length l → put (bytes_of width x) l ≡ over (bytes_of width x) l
 room_for width x l h = let z = length_bytes width x in put_room (bytes_of width x) l (omega (arith, z))
 
