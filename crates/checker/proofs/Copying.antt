@@ -2,7 +2,7 @@
 -- Assumes nothing.
 use Rattle.std.proofs.Common.{◌≡◌, ℕ, ◌+◌, ◌-◌, ◌*◌, ◌/◌, ◌%◌, ◌^◌, ◌<◌, ◌≤◌, Bool, true, false, ◌&&◌, eqb, leb, List, length, get_or, take, drop, sym, refl, ◌∙◌, arith, length-drop, length-take, eq-eqb, eqb-true, le-leb, leb-true}
 use Rattle.std.proofs.lemmas.Bool.Decides.{Decides-eqb}
-use Rattle.std.proofs.lemmas.List.{ext_get_or, get_or_past, get_or-take, get_or-drop}
+use Rattle.std.proofs.lemmas.List.{ext_get_or, get_or_past, get_or-take, get_or-drop, take_all}
 use Rattle.std.proofs.lemmas.Slice.Eq.{slice_eq-Decides}
 use Rattle.std.specs.Cmp.Lexicographic.{pointwise}
 use native.Mathlib.Decide.{ℕ_discrete, dec_lt}
@@ -153,6 +153,14 @@ module _ (s b : List ℕ) where
   unfolding body
   copied_bytes of-s of-b room l p =
       rw (copied_when, ← same_slices _ _ (bytes_part _ 12 b of-b) (bytes_part _ _ s of-s) (whole_list b room) l.whole p)
+
+  -- and of a list p that the clause begins with: it has to be all of the literals
+  pub copied_start : IsBytes s → IsBytes b → 12 + 2 * literal_count b ≤ length b → LiteralList (variables s) (cited_clause s b 1)
+      → length (cited_clause s b 1) ≡ length (literals b) → (p : List ℕ) {x : Bool}
+      → x ≡ pointwise eqb p (take (length p) (cited_clause s b 1)) → p ≡ literals b → x && eqb (bound b) none ≡ is_copied s b
+  copied_start of-s of-b room l long p starts whole =
+      let all = take_all (length (literals b)) (cited_clause s b 1) (omega (arith, long)) in
+      copied_bytes of-s of-b room l (rw (whole, all) at starts)
 
   module _ (valid : ValidSheet s) (cites : leb 1 (cited b 1) && leb (cited b 1) (clauses s) ≡ true) where
     pub cited_among : Among (clauses s) (cited b 1)

@@ -1,14 +1,14 @@
 -- `checker::copy::is_copy` meets its contract. A test that fails is one of a step that passes, and after the last one there is only
 -- left whether the clause is copied.
 -- Assumes nothing.
-use Rattle.std.proofs.Common.{◌≡◌, length, take_all, sym, ◌∙◌, arith}
+use Rattle.std.proofs.Common.{◌≡◌, take_all, sym, ◌∙◌, arith}
 use Rattle.judgement.proofs.Laws.Scan.{clash, false_i}
 use Rattle.judgement.specs.Meaning.{none}
 use Rattle.judgement.specs.Sheet.{clauses, clause_pairs_at}
-use Rattle.judgement.specs.Step.{literals, cited_clause}
+use Rattle.judgement.specs.Step.{cited_clause}
 use Rattle.judgement.specs.Demands.{IsBytes}
 use Rattle.checker.proofs.Body.{pair_within}
-use Rattle.checker.proofs.Copying.{copied_bytes, passing_length, passing_size, passing_byte, passing_cited, whole_tail, cited_among, copies_is}
+use Rattle.checker.proofs.Copying.{copied_start, passing_length, passing_size, passing_byte, passing_cited, whole_tail, cited_among, copies_is}
 use Rattle.layout.proofs.Number.{number_byte}
 use Rattle.checker.proofs.copy.is_copy.Goals as goal
 
@@ -72,7 +72,6 @@ returns c =
     let clause : c.body_at-clause.result.now ≡ cited_clause s b 1 = rw (← c.cited-number.ensures, ← c.clause_pairs_at.ensures.0) c.body_at-clause.ensures in
     let list = c.requires.lists _ (cited_among s b c.requires cites) in
     let long = rw (clause, c.literals-literals.ensures) at c.if-clause-literals.false in
-    let all = take_all (length (literals b)) (cited_clause s b 1) (omega (arith, long)) in
-    let starts = rw (c.literals-literals.ensures, clause, all) at c.starts_with.ensures.value in
-    let same = copied_bytes s b bytes others (omega (arith, size)) list starts in
+    -- what is compared is all of the literals, whichever way it is cut from them
+    let same = copied_start s b bytes others (omega (arith, size)) list long _ (rw clause at c.starts_with.ensures.value) (search (arith, take_all, c.literals-literals.ensures)) in
     rw c.bound.ensures (same ∙ copies_is s b c.requires cites size (number_byte b 1 ∙ c.if-b-ne0.false))
