@@ -1,12 +1,11 @@
 -- What a signed local holds. The machine keeps the bits of an integer, and each operation reads the integer back: `to_z w64` of
 -- `of_z w64`. Where the integer is small, what is read back is the integer itself.
 -- Assumes nothing.
-use Rattle.std.proofs.Common.{◌≡◌, ℕ, zero, suc, ◌+◌, ◌-◌, ◌*◌, ◌/◌, ◌%◌, ◌^◌, ◌<◌, ◌≤◌, min, Bool, true, false, cond, ℤ, pos, negsuc, ◌+ℤ◌, ◌-ℤ◌, neg_ℤ, nat_abs, sym, refl, mul-le-mul, div-le_self, arith, w64, SFits, to_z, of_z, lt-ltb}
+use Rattle.std.proofs.Common.{◌≡◌, ℕ, zero, suc, ◌+◌, ◌-◌, ◌*◌, ◌/◌, ◌%◌, ◌^◌, ◌<◌, ◌≤◌, Bool, true, false, cond, T, ℤ, pos, negsuc, ◌+ℤ◌, ◌-ℤ◌, neg_ℤ, nat_abs, refl, mul-le-mul, div-le_self, arith, w64, Fits, SFits, to_z, of_z, lt-ltb}
 use native.Mathlib.Nat.{div-eq_of_lt}
-use lib.Signed.{mag}
+use lib.Signed.{mag, quot_z, non_neg}
 use mir.ValLaws.{to_z-of_z, to_z_pos}
-use Rattle.std.specs.Int.{int_min, int_max, div_ceil}
-use Rattle.std.proofs.Math.Nat.{div-add-mod, mul-add-div, add-div_left}
+use Rattle.std.specs.Int.{int_min, int_max}
 use Rattle.judgement.specs.Meaning.{is_positive}
 use Rattle.judgement.specs.Integers.{below_zero, rounded_up}
 use Rattle.checker.specs.Weighing.{shift}
@@ -45,32 +44,67 @@ less_size (negsuc n) = omega arith
 
 -- ---- rounding up
 
--- a quotient, and 1 more where something is left over
-ceil_is : (n d : ℕ) → 1 ≤ d → div_ceil n d ≡ (n + (d - 1)) / d
-ceil_is n d l = rw (split, mul-add-div l (n / d) (n % d + (d - 1)), ← rest (n % d) (omega (arith, l))) refl
-  where
-    split : n + (d - 1) ≡ d * (n / d) + (n % d + (d - 1))
-    split = omega (arith, div-add-mod n d)
+-- z where it is positive, else 0
+abbrev pub above_zero : ℤ → ℕ
+above_zero z = nat_abs (int_max z (pos 0))
 
-    rest : (r : ℕ) → r < d → min 1 r ≡ (r + (d - 1)) / d
-    rest zero h = sym (div-eq_of_lt (omega arith))
-    rest (suc r) h =
-        let e : suc r + (d - 1) ≡ d + r = omega arith in
-        let one : min 1 (suc r) ≡ 1 = omega arith in
-        rw (e, one, add-div_left r l, div-eq_of_lt h') refl
-      where
-        h' : r < d
-        h' = omega arith
+pub positive_total : (z : ℤ) → int_max z (pos 0) ≡ pos (above_zero z)
+positive_total (pos zero) = refl
+positive_total (pos (suc n)) = rw (lt-ltb 0 (suc n) (omega arith))
+positive_total (negsuc n) = refl
 
--- the total, or 0 where it is below that, rounded up
-pub rounded_read : (z : ℤ) (d : ℕ) → 1 ≤ d → div_ceil (nat_abs (int_max z (pos 0))) d ≡ rounded_up z d
-rounded_read (pos zero) d l = ceil_is 0 d l
-rounded_read (pos (suc n)) d l = rw (lt-ltb 0 (suc n) (omega arith)) (ceil_is (suc n) d l)
-rounded_read (negsuc n) d l = rw (ceil_is 0 d l) (div-eq_of_lt (omega arith))
+pub above_size : (z : ℤ) → above_zero z ≤ nat_abs z
+above_size (pos zero) = omega arith
+above_size (pos (suc n)) = rw (lt-ltb 0 (suc n) (omega arith)) (omega arith)
+above_size (negsuc n) = omega arith
 
 pub rounded_small : (z : ℤ) (d : ℕ) → nat_abs z < 2 ^ 62 → d < 2 ^ 16 → rounded_up z d < 2 ^ 63
 rounded_small (pos n) d b h = let q = div-le_self (n + (d - 1)) d in omega arith
 rounded_small (negsuc n) d b h = omega arith
+
+-- the bits of the quotient of a sum x by d: both are read back
+abbrev pub quotient_bits : ℤ → ℕ → ℕ
+quotient_bits x d = of_z w64 (quot_z (to_z w64 (of_z w64 x)) (to_z w64 d))
+
+quotient_small : (n d : ℕ) → n < 2 ^ 62 → d < 2 ^ 16 → (n + (d - 1)) / d < 2 ^ 63
+quotient_small n d b h =
+    let q = div-le_self (n + (d - 1)) d in
+    omega arith
+
+quotient_read : (x : ℤ) (n d : ℕ) → x ≡ pos (n + (d - 1)) → n < 2 ^ 62 → d < 2 ^ 16
+    → quot_z (to_z w64 (of_z w64 x)) (to_z w64 d) ≡ pos ((n + (d - 1)) / d)
+quotient_read x n d e b h = rw (e, back (pos (n + (d - 1))) (omega arith), natural d (omega arith))
+
+quotient_back : (x : ℤ) (n d : ℕ) → x ≡ pos (n + (d - 1)) → n < 2 ^ 62 → d < 2 ^ 16
+    → to_z w64 (quotient_bits x d) ≡ pos ((n + (d - 1)) / d)
+quotient_back x n d e b h = rw (quotient_read x n d e b h) (back (pos ((n + (d - 1)) / d)) (quotient_small n d b h))
+
+-- where the sum is of the total z, or 0 where that is below 0, and d - 1
+module _ (z : ℤ) (d : ℕ) {x : ℤ} (b : nat_abs z < 2 ^ 62) (h : d < 2 ^ 16) (sum : x ≡ pos (above_zero z + (d - 1))) where
+  few : above_zero z < 2 ^ 62
+  few = let s = above_size z in omega arith
+
+  bits : to_z w64 (quotient_bits x d) ≡ pos ((above_zero z + (d - 1)) / d)
+  bits = quotient_back x (above_zero z) d sum few h
+
+  pub quotient_natural : T (non_neg (to_z w64 (quotient_bits x d)))
+  quotient_natural = rw bits tt
+
+  pub quotient_fits : Fits w64 (nat_abs (to_z w64 (quotient_bits x d)))
+  quotient_fits =
+      let q = quotient_small (above_zero z) d few h in
+      rw bits (record { fits = omega arith })
+
+  pub rounded_read : 1 ≤ d → nat_abs (to_z w64 (quotient_bits x d)) ≡ rounded_up z d
+  rounded_read l = rw bits (rounds z)
+    where
+      rounds : (z : ℤ) → (above_zero z + (d - 1)) / d ≡ rounded_up z d
+      rounds (pos zero) = refl
+      rounds (pos (suc n)) = rw (lt-ltb 0 (suc n) (omega arith)) refl
+      rounds (negsuc n) = div-eq_of_lt (omega arith)
+
+  pub rounded_below : 1 ≤ d → nat_abs (to_z w64 (quotient_bits x d)) < 2 ^ 63
+  rounded_below l = rw (rounded_read l) (rounded_small z d b h)
 
 -- ---- the lesser of an integer and 0
 

@@ -49,5 +49,6 @@ pub(crate) fn rounded_up(total: i64, d: u64) -> u64
     requires { (unsigned_abs total < 2 ^ 62) × (1 ≤ d) × (d < 2 ^ 16) }
     ensures { (result ≡ rounded_up total d) × (result < 2 ^ 63) }
 {
-    (total.max(0) as u64).div_ceil(d)
+    let e = d as i64;
+    ((total.max(0) + (e - 1)) / e) as u64
 }
