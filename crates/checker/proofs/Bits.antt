@@ -182,3 +182,11 @@ shift_bound c y h = go (is_positive c)
     go : (b : Bool) → nat_abs (cond b (neg_ℤ (pos y)) (pos y)) ≤ 2 ^ 16
     go true = let e = neg_size (pos y) in omega (arith, e, h)
     go false = omega (arith, h)
+
+pub again_right : (x w : ℤ) → Held w → x +ℤ again w ≡ x +ℤ w
+again_right x w h = rw (held w h)
+
+pub weight_small : (c y : ℕ) → y < 2 ^ 16 → c % 2 * y < 2 ^ 16
+weight_small c y h =
+    let s = mul-le-mul {n₁ = c % 2} {m₁ = y} {n₂ = 1} {m₂ = y} (omega arith) (omega arith) in
+    omega arith

@@ -62,7 +62,7 @@ impl Scratch {
         let v = c / 2;
         let kept = self.rest[v - 1];
         let stale = self.marks[v - 1].wrapping_sub(t) / independent::HALF;
-        let old = signed::one_of(stale as usize, kept, full as i64);
+        let old = signed::one_of(stale as usize, kept, signed::natural(full));
         let w = (c % 2) as u64 * y;
         let new = signed::shifted(old, w, y);
         self.marks[v - 1] = t;
@@ -80,12 +80,12 @@ impl Scratch {
         let clause = priced.clause(read::u32_at(tail, at) as u32);
         let y = read::u16_at(tail, at + 4) as u64;
         let q = clause.len() / 2;
-        let mut sum = y as i64;
+        let mut sum = signed::natural(y);
         for i in 0..q {
             let c = read::code_in_form(clause, i);
             let full = d * priced.falsified[2 * (c / 2) + 1];
             let gain = self.meet(full, c, y, t);
-            sum += gain;
+            sum = signed::plus(sum, gain);
         }
         sum
     }
@@ -98,10 +98,10 @@ impl Scratch {
     {
         let d = read::u16_at(tail, 0) as u64;
         let count = (tail.len() - 2) / 6;
-        let mut sum = (d * self.settle(priced, list, t)) as i64;
+        let mut sum = signed::natural(d * self.settle(priced, list, t));
         for j in 0..count {
             let gain = self.add_entry(priced, tail, d, j, t);
-            sum += gain;
+            sum = signed::plus(sum, gain);
         }
         priced.with_loss(signed::rounded_up(sum, d))
     }

@@ -7,6 +7,14 @@ ghost use Rattle.checker.specs.Weighing.{far_of};
 // Where the number of a variable that the step settles begins: so far from 0 that it stays on its side.
 const FAR: i64 = 1 << 59;
 
+// A number that is not negative.
+pub(crate) fn natural(x: u64) -> i64
+    requires { x < 2 ^ 63 }
+    ensures { result ≡ pos x }
+{
+    x as i64
+}
+
 // Far above 0 where c is positive, so that falsifying it makes its variable false, and else far below.
 #[tactic(auto, using(crate::proofs::Far::far_above, crate::proofs::Far::far_below))]
 pub(crate) fn far(c: usize) -> i64
@@ -26,6 +34,13 @@ pub(crate) fn one_of(i: usize, x: i64, y: i64) -> i64
 {
     let two = [x, y];
     two[i]
+}
+
+pub(crate) fn plus(x: i64, y: i64) -> i64
+    requires { (unsigned_abs x < 2 ^ 62) × (unsigned_abs y < 2 ^ 62) }
+    ensures { result ≡ x +ℤ y }
+{
+    x + y
 }
 
 // The remainder x after a literal of a clause of weight y: w is y where the literal is negative, and 0 where it is not.

@@ -1,4 +1,4 @@
-use Rattle.std.proofs.Common.{◌≡◌, ℕ, ◌+◌, ◌-◌, ◌*◌, ◌/◌, ◌^◌, ◌<◌, ◌≤◌, List, set, refl, ℤ, pos, ◌+ℤ◌, ◌-ℤ◌, nat_abs, ◌∙◌, arith, w64, to_z}
+use Rattle.std.proofs.Common.{◌≡◌, ℕ, ◌+◌, ◌-◌, ◌*◌, ◌/◌, ◌^◌, ◌<◌, ◌≤◌, List, set, ℤ, pos, ◌+ℤ◌, ◌-ℤ◌, nat_abs, ◌∙◌, arith, w64, to_z}
 use Rattle.judgement.specs.Integers.{below_zero}
 use Rattle.judgement.specs.Meaning.{variable_of}
 use Rattle.judgement.specs.Literals.{count, code}
@@ -8,7 +8,7 @@ use Rattle.judgement.specs.Facts.{Among, LiteralList}
 use Rattle.judgement.specs.Demands.{IsBytes}
 use Rattle.checker.specs.Prices.{price_at}
 use Rattle.checker.specs.Weighing.{Entered, Weighing, full_of, moved, shift, negative_weight, kept_of}
-use Rattle.checker.proofs.Bits.{held, natural, plus_small, plus_back, add_size, shift_bound}
+use Rattle.checker.proofs.Bits.{held, again_right, add_size, shift_bound}
 use Rattle.checker.proofs.Cited.{list_within, rising_few}
 use Rattle.checker.proofs.Meeting.{met_state, met_told, old_size}
 use Rattle.checker.proofs.Adding.{rem_to, rem_to_size}
@@ -86,7 +86,7 @@ module _ {S P E C : List ℕ} {pairs d j : ℕ} (y : ℕ) (bytes-s : IsBytes S) 
 pub loop-i-init : goal.loop-i-init
 loop-i-init c =
     let y = c.u16_at-y in
-    let e = natural y.result (omega (arith, y.ensures.1)) in
+    let e = held c.natural-sum.result c.natural-sum.type_inv ∙ c.natural-sum.ensures in
     let self = c.args.self.now in
     (rw e (omega (arith, y.ensures.1)), λ D w. added_start D c.args.priced.now.sheet.now c.args.tail.now c.args.j c.args.t c.clause-clause.result.now y.result self.marks self.rest _ e w)
 
@@ -114,8 +114,8 @@ meet-gain-requires c =
       kept_small y.result p.bytes bytes c.requires.0 clause-is y.ensures.1 (omega arith) c.code_in_form-c.ensures.0 w,
     )
 
-pub overflow_add-sum : goal.overflow_add-sum
-overflow_add-sum c =
+pub plus-sum-requires : goal.plus-sum-requires
+plus-sum-requires c =
     let p = c.args.priced.now in
     let bytes : IsBytes c.args.tail.now = λ i. (c.type_inv.tail i).fits in
     let clause-is = clause_next p.sheet.now c.args.tail.now c.args.j c.clause-clause.ensures c.u32_at.ensures.0 in
@@ -123,8 +123,7 @@ overflow_add-sum c =
     let w = (c.loop-i.invariant.1 c.requires.2.0 c.requires.2.1).state in
     let g = gain-bounded y.result p.bytes bytes c.requires.0 clause-is y.ensures.1 (omega arith) c.code_in_form-c.ensures.0 w c.meet-gain.ensures.told in
     let few = few-literals y.result p.bytes bytes c.requires.0 clause-is y.ensures.1 in
-    let gain = c.meet-gain in
-    plus_small (to_z w64 c.loop-i.sum-bits) gain.result refl (held gain.result gain.type_inv) (omega (arith, c.loop-i.invariant.0, few)) (omega (arith, g))
+    (omega (arith, c.loop-i.invariant.0, few), rw (held c.meet-gain.result c.meet-gain.type_inv) (omega (arith, g)))
 
 pub loop-i-preserved : goal.loop-i-preserved
 loop-i-preserved c =
@@ -137,10 +136,9 @@ loop-i-preserved c =
     let less : l.i < count c.clause-clause.result.now = omega arith in
     let w = (l.invariant.1 c.requires.2.0 c.requires.2.1).state in
     let g = gain-bounded y.result p.bytes bytes c.requires.0 clause-is y.ensures.1 less x-is w c.meet-gain.ensures.told in
-    let few = few-literals y.result p.bytes bytes c.requires.0 clause-is y.ensures.1 in
     let gain = c.meet-gain in
     let sum = to_z w64 l.sum-bits in
-    let sum_is = plus_back sum gain.result refl (held gain.result gain.type_inv) (omega (arith, l.invariant.0, few)) (omega (arith, g)) in
+    let sum_is = held c.plus-sum.result c.plus-sum.type_inv ∙ c.plus-sum.ensures ∙ again_right sum gain.result gain.type_inv in
     let s = add_size sum gain.result in (
       rw sum_is (omega (arith, g, l.invariant.0, s)),
       λ D w.
