@@ -168,9 +168,10 @@ module _ (s turns : List ℕ) (b : Lent) where
   unfolding turn_finding lent_finding no_room
   no_room_lem e r = outcome (fault 29 0) _ b (rw (← e, r)) (refl, refl)
 
-  pub wrong_told : (n : ℕ) (r o : Option ℕ) → n ≡ variables s → over_all (wrong_turn n turns) (length turns) ≡ wrong_at r → r ≡ o
+  -- what is told of a list that is that of the turns
+  pub wrong_told : (l : List ℕ) (n : ℕ) (r o : Option ℕ) → l ≡ turns → n ≡ variables s → over_all (wrong_turn n l) (length l) ≡ wrong_at r → r ≡ o
       → over_all (wrong_turn (variables s) turns) (length turns) ≡ wrong_at o
-  wrong_told n r o en w e = rw (← en) (w ∙ rw e)
+  wrong_told l n r o el en w e = rw (← en, ← el) (w ∙ rw e)
 
   -- where there is room, the turns alone are looked at
   with_room : (f : Finding) {u : Unit {0}} → Ok u ≡ alone_finding s → has_room s (length b.assignment) (length b.index) (length b.counts) ≡ true
