@@ -156,6 +156,13 @@ sizes x =
       marked = (omega arith, omega arith);
     }
 
+-- so the count, and the number of marks, are written as they are
+pub count_fits : (x : Selection) {n : ℕ} → n ≡ count_of (kept x.source.sheet.now x.source.«record».now) (steps x.source.«record».now) → n < 2 ^ 32
+count_fits x e = let z = sizes x in omega (arith, e)
+
+pub marks_fit : (x : Selection) → length x.marks.now < 2 ^ 32
+marks_fit x = let z = sizes x in omega arith
+
 -- ---- the answers
 
 -- 28, or the record

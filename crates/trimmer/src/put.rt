@@ -65,7 +65,7 @@ impl Selection<'_> {
     }
 
     // The record of the steps that have marks, `count` of them. There is room for two counts where a pair will stand.
-    #[tactic(auto, using(crate::proofs::Chosen::count_at_most))]
+    #[tactic(auto, using(crate::proofs::Whole::count_fits, crate::proofs::Whole::marks_fit))]
     fn write_all(&self, count: usize, out: &mut [u8])
         requires { (count ≡ count_of (kept self.now.source.sheet.now self.now.source.«record».now) (steps self.now.source.«record».now))
             × (length (trimmed self.now.source.sheet.now self.now.source.«record».now) ≤ length out.old) }

@@ -62,9 +62,6 @@ write_pairs-requires c =
     let q = ap length p in
     (omega arith, omega arith)
 
-pub overflow_cast-count : goal.overflow_cast-count
-overflow_cast-count c = let z = sizes c.args.self.now in omega arith
-
 pub returns : goal.returns
 returns c =
     let x = c.args.self.now in
