@@ -9,7 +9,7 @@ use native.Mathlib.Omega.{arith}
 use borrow.Author.Tests.{le-leb, leb-true, lt-leb}
 use lib.Dec.{leb}
 use lib.ListN.{get_or, length}
-use Rattle.std.specs.Prelude.{Option, Ok, Err}
+use Rattle.std.specs.Prelude.{Option, Some, Ok, Err}
 use Rattle.judgement.specs.Buffer.{Kept, over}
 use Rattle.judgement.specs.Facts.{ValidSheet}
 use Rattle.judgement.specs.Finding.{Finding, fault, need, over_all}
@@ -143,11 +143,47 @@ run_done s turns a₀ i₀ c₀ a i₁ i c c₁ total ki ei ea h k k' =
     let same : over (index_of s) i₁ ≡ over (index_of s) i₀ = rw (index_length s, ki.behind) in
     (et ∙ rw ea, rw (ec, ea, ei, same))
 
--- ---- the answer and the buffers, by the finding
+-- ---- the answer and the buffers of a valid sheet
 
 -- the answer to a finding f, and what is left, are these
 abbrev pub Outcome : Finding → List ℕ → List ℕ → Lent → Turned → Lent → Type 0
 Outcome f s turns b r l = (r ≡ answer_of f (broken_total s (value_in (turned b.assignment turns)))) × (l ≡ left_in f s turns b)
+
+fault_outcome : (f : Finding) (number place : ℕ) (s turns : List ℕ) (b : Lent) → f ≡ fault number place
+    → Outcome f s turns b (record { number = number; place = place; total = 0 }) b
+fault_outcome f number place s turns b e = rw e (refl, refl)
+
+-- what is told of n variables and of a list that is that of the turns
+pub wrong_told : (s turns l : List ℕ) (n : ℕ) (r o : Option ℕ) → l ≡ turns → n ≡ variables s → over_all (wrong_turn n l) (length l) ≡ wrong_at r → r ≡ o
+    → over_all (wrong_turn (variables s) turns) (length turns) ≡ wrong_at o
+wrong_told s turns l n r o el en w e = rw (← en, ← el) (w ∙ rw e)
+
+module _ (s turns a i c : List ℕ) where
+  pub no_room_lem : has_room s (length a) (length i) (length c) ≡ false
+      → Outcome (lent_finding s turns (lent a i c)) s turns (lent a i c) (record { number = 29; place = 0; total = 0 }) (lent a i c)
+  unfolding lent_finding no_room
+  no_room_lem e = fault_outcome (lent_finding s turns (lent a i c)) 29 0 s turns (lent a i c) (rw e)
+
+  -- where there is room, the turns alone are looked at
+  pub with_room : has_room s (length a) (length i) (length c) ≡ true
+      → lent_finding s turns (lent a i c) ≡ over_all (wrong_turn (variables s) turns) (length turns)
+  unfolding lent_finding no_room
+  with_room e = rw e
+
+  pub wrong_turn_lem : (n : ℕ) (r : Option ℕ) (place : ℕ) → n ≡ variables s → has_room s (length a) (length i) (length c) ≡ true
+      → over_all (wrong_turn n turns) (length turns) ≡ wrong_at r → r ≡ Some place
+      → Outcome (lent_finding s turns (lent a i c)) s turns (lent a i c) (record { number = 30; place = place; total = 0 }) (lent a i c)
+  wrong_turn_lem n r place en e w d =
+      fault_outcome (lent_finding s turns (lent a i c)) 30 place s turns (lent a i c)
+      (with_room e ∙ wrong_told s turns turns n r (Some place) refl en w d)
+
+  pub all_turned : (total : ℕ) (l : Lent) → has_room s (length a) (length i) (length c) ≡ true
+      → over_all (wrong_turn (variables s) turns) (length turns) ≡ Ok tt
+      → total ≡ broken_total s (value_in (turned a turns)) → l ≡ left_in (Ok tt) s turns (lent a i c)
+      → Outcome (lent_finding s turns (lent a i c)) s turns (lent a i c) (record { number = 0; place = 0; total = total }) l
+  all_turned total l e w et el = rw (with_room e ∙ w) (rw et, el)
+
+-- ---- the sheet first
 
 module _ (s turns : List ℕ) (b : Lent) where
   pub valid_by : {u : Unit {0}} → Ok u ≡ alone_finding s → ValidSheet s
@@ -163,31 +199,26 @@ module _ (s turns : List ℕ) (b : Lent) where
   unfolding turn_finding
   refused_sheet x e = outcome (Err x) _ b (rw (← e)) (refl, refl)
 
-  pub no_room_lem : {u : Unit {0}} → Ok u ≡ alone_finding s → has_room s (length b.assignment) (length b.index) (length b.counts) ≡ false
+  -- of a sheet that has passed, what comes of the turns and of the buffers
+  pub passed_sheet : (r : Turned) (l : Lent) {u : Unit {0}} → Ok u ≡ alone_finding s → Outcome (lent_finding s turns b) s turns b r l
+      → (r ≡ turning s turns b) × (l ≡ left s turns b)
+  unfolding turn_finding
+  passed_sheet r l e w = outcome (lent_finding s turns b) r l (rw (← e)) w
+
+  pub no_room_told : {u : Unit {0}} → Ok u ≡ alone_finding s → has_room s (length b.assignment) (length b.index) (length b.counts) ≡ false
       → ◌≡◌ {A = Turned} (record { number = 29; place = 0; total = 0 }) (turning s turns b) × (b ≡ left s turns b)
-  unfolding turn_finding lent_finding no_room
-  no_room_lem e r = outcome (fault 29 0) _ b (rw (← e, r)) (refl, refl)
+  no_room_told e r = passed_sheet _ b e (no_room_lem s turns b.assignment b.index b.counts r)
 
-  -- what is told of a list that is that of the turns
-  pub wrong_told : (l : List ℕ) (n : ℕ) (r o : Option ℕ) → l ≡ turns → n ≡ variables s → over_all (wrong_turn n l) (length l) ≡ wrong_at r → r ≡ o
-      → over_all (wrong_turn (variables s) turns) (length turns) ≡ wrong_at o
-  wrong_told l n r o el en w e = rw (← en, ← el) (w ∙ rw e)
-
-  -- where there is room, the turns alone are looked at
-  with_room : (f : Finding) {u : Unit {0}} → Ok u ≡ alone_finding s → has_room s (length b.assignment) (length b.index) (length b.counts) ≡ true
-      → over_all (wrong_turn (variables s) turns) (length turns) ≡ f → turn_finding s turns b ≡ f
-  unfolding turn_finding lent_finding no_room
-  with_room f e r w = rw (← e, r) w
-
-  pub wrong_turn_lem : (place : ℕ) {u : Unit {0}} → Ok u ≡ alone_finding s
+  pub wrong_turn_told : (place : ℕ) {u : Unit {0}} → Ok u ≡ alone_finding s
       → has_room s (length b.assignment) (length b.index) (length b.counts) ≡ true
       → over_all (wrong_turn (variables s) turns) (length turns) ≡ fault 30 place
       → ◌≡◌ {A = Turned} (record { number = 30; place = place; total = 0 }) (turning s turns b) × (b ≡ left s turns b)
-  wrong_turn_lem place e r w = outcome (fault 30 place) _ b (with_room (fault 30 place) e r w) (refl, refl)
+  wrong_turn_told place e r w =
+      passed_sheet _ b e (wrong_turn_lem s turns b.assignment b.index b.counts (variables s) (Some place) place refl r w refl)
 
-  pub all_turned : (total : ℕ) (l : Lent) {u : Unit {0}} → Ok u ≡ alone_finding s
+  pub all_turned_told : (total : ℕ) (l : Lent) {u : Unit {0}} → Ok u ≡ alone_finding s
       → has_room s (length b.assignment) (length b.index) (length b.counts) ≡ true
       → over_all (wrong_turn (variables s) turns) (length turns) ≡ Ok tt
       → (total ≡ broken_total s (value_in (turned b.assignment turns))) × (l ≡ left_in (Ok tt) s turns b)
       → ◌≡◌ {A = Turned} (record { number = 0; place = 0; total = total }) (turning s turns b) × (l ≡ left s turns b)
-  all_turned total l e r w d = outcome (Ok tt) _ l (with_room (Ok tt) e r w) (rw d.0, d.1)
+  all_turned_told total l e r w d = passed_sheet _ l e (all_turned s turns b.assignment b.index b.counts total l r w d.0 d.1)
