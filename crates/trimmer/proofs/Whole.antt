@@ -28,13 +28,13 @@ use Rattle.trimmer.specs.Work.{Marked, marked, bodies_to, pairs_to, head_bytes}
 use Rattle.trimmer.proofs.Chosen.{count_at_most, count_rises, length_chosen}
 use Rattle.trimmer.proofs.When.{marks_size}
 use Rattle.trimmer.proofs.Trimmed.{kept_set, size_is, trimmed_shorter}
-use Rattle.trimmer.proofs.Behind.{behind_written}
+use Rattle.trimmer.proofs.Behind.{behind_written, part_length}
 use Rattle.trimmer.proofs.Steps.{few_steps, marks_length, counted}
 use Rattle.trimmer.proofs.Loops.{length_pairs_to}
 use Rattle.trimmer.specs.declared.put.Selection.{Selection}
 use Rattle.trimmer.proofs.Placed.{s, r, selected}
 
--- ---- the front part and the bodies behind it
+-- ---- four writes: the samples, the bodies behind them, the pairs over the samples, and the head
 
 -- pairs from `at` to the end of a part, and then the head before them
 module _ (at : ℕ) (l pairs head : List ℕ) (low : at ≤ length l) (head_size : length head ≡ at) (pairs_size : length pairs ≡ length l - at) where
@@ -46,9 +46,10 @@ module _ (at : ℕ) (l pairs head : List ℕ) (low : at ≤ length l) (head_size
       let w : part_put at l p ≡ take at l ++ pairs = behind_written at l pairs p low ep ∙ rw (z, d, append-nil) in
       em ∙ rw (w, head_size, drop_at (take at l) pairs at n)
 
-pub all_written : (front₀ back₀ front back w v : List ℕ) → length w ≡ length front₀ → front ≡ w → back ≡ over v back₀
+-- a front part written whole, and the part behind it
+both_written : (front₀ back₀ front back w v : List ℕ) → length w ≡ length front₀ → front ≡ w → back ≡ over v back₀
     → front ++ back ≡ over (w ++ v) (front₀ ++ back₀)
-all_written front₀ back₀ front back w v n ef eb =
+both_written front₀ back₀ front back w v n ef eb =
     rw (
       ef,
       eb,
@@ -57,6 +58,18 @@ all_written front₀ back₀ front back w v n ef eb =
       drop-append-add front₀ back₀ (length v),
       append_assoc w v (drop (length v) back₀),
     )
+
+-- samples `tab` from `at` to the end of the front part, the bodies in the part behind, the pairs over the samples, and the head before
+-- them: what stood in the front part, and the samples, are gone
+pub all_written : (at : ℕ) (front₀ back₀ tab head pairs bodies : List ℕ) → at ≤ length front₀ → length tab ≡ length front₀ - at
+    → length head ≡ at → length pairs ≡ length front₀ - at → (back p m : List ℕ) → back ≡ over bodies back₀
+    → p ≡ over pairs (part_from at (part_put at front₀ tab)) → m ≡ over head (part_put at (part_put at front₀ tab) p)
+    → m ++ back ≡ over ((head ++ pairs) ++ bodies) (front₀ ++ back₀)
+all_written at front₀ back₀ tab head pairs bodies low tab-size head-size pairs-size back p m eb ep em =
+    let y = part_length at front₀ tab low tab-size in
+    let n : length (head ++ pairs) ≡ length front₀ = length-append head pairs ∙ omega arith in
+    let f = front_written at (part_put at front₀ tab) pairs head (omega arith) head-size (omega arith) p m ep em in
+    both_written front₀ back₀ m back (head ++ pairs) bodies n f eb
 
 -- ---- sizes, and the record part by part
 

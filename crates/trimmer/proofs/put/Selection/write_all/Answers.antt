@@ -3,15 +3,14 @@
 -- Assumes nothing.
 use native.Mathlib.Omega.{arith}
 use Prim.Native.Nat.{◌+◌, ◌-◌, ◌*◌}
-use mathlib.Core.Path.{refl, ap, ◌∙◌}
-use mathlib.Core.List.{◌++◌}
-use lib.ListN.{length, length-append}
+use mathlib.Core.Path.{refl, ap}
+use lib.ListN.{length}
 use native.Mathlib.Nat.{div-le_self}
 use Rattle.trimmer.proofs.Numbering.{wide_enough}
-use Rattle.judgement.proofs.Laws.Buffer.{length_from, part_put}
+use Rattle.judgement.proofs.Laws.Buffer.{length_from}
 use Rattle.trimmer.specs.Work.{bodies_to, pairs_to, head_bytes}
-use Rattle.trimmer.proofs.Behind.{part_is, part_length}
-use Rattle.trimmer.proofs.Whole.{sizes, pairs_size, head_size, front_written, all_written, whole_is}
+use Rattle.trimmer.proofs.Behind.{part_is}
+use Rattle.trimmer.proofs.Whole.{sizes, pairs_size, head_size, all_written, whole_is}
 use Rattle.trimmer.proofs.Placed.{s, r, selected}
 use Rattle.trimmer.proofs.put.Selection.write_all.Goals as goal
 
@@ -74,13 +73,10 @@ returns c =
     let start = x.source.table + 8 * c.args.count in
     let n = pairs_size (s x.source) (r x.source) x.source.table x.marks.now m start in
     let h = head_size (s x.source) (r x.source) x.source.table x.marks.now m c.args.count in
-    let y = part_length x.source.table front c.write_samples.new.table (omega arith) (omega arith) in
     let value = c.split_at_mut-front.ensures.value in
-    let done = front_written x.source.table (part_put x.source.table front c.write_samples.new.table) (pairs_to (s x.source) (r x.source) start (length x.marks.now)) (head_bytes (r x.source) x.source.table c.args.count)
-    (omega arith) h (omega arith) c.write_pairs.new.out c.write_head.new.out c.write_pairs.ensures c.write_head.ensures in
     rw (value, ← (whole_is (s x.source) (r x.source) x.source.table x.marks.now m x.source.bytes c.args.count start c.requires.0 refl))
-    (all_written front c.split_at_mut-front.result.1.now c.write_head.new.out c.write_bodies.new.out
-    (head_bytes (r x.source) x.source.table c.args.count ++ pairs_to (s x.source) (r x.source) start (length x.marks.now))
+    (all_written x.source.table front c.split_at_mut-front.result.1.now c.write_samples.new.table
+    (head_bytes (r x.source) x.source.table c.args.count) (pairs_to (s x.source) (r x.source) start (length x.marks.now))
     (bodies_to (s x.source) (r x.source) (length x.marks.now))
-    (length-append (head_bytes (r x.source) x.source.table c.args.count) (pairs_to (s x.source) (r x.source) start (length x.marks.now)) ∙ omega arith)
-    done c.write_bodies.ensures)
+    (omega arith) (omega arith) h (omega arith) c.write_bodies.new.out c.write_pairs.new.out c.write_head.new.out
+    c.write_bodies.ensures c.write_pairs.ensures (grind (arith, c.write_head.ensures)))
