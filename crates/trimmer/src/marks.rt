@@ -3,8 +3,7 @@ ghost use Rattle.std.specs.Prelude.{◌≡◌, ◌≤◌, length, eqb};
 ghost use Rattle.judgement.specs.Record.{steps, step};
 ghost use Rattle.judgement.specs.Step.{kind_of};
 ghost use Rattle.judgement.specs.Facts.{Among};
-ghost use Rattle.trimmer.specs.Trim.{marks_of};
-ghost use Rattle.trimmer.specs.Work.{Citing, marks_to, with_cited, passed_on};
+ghost use Rattle.trimmer.specs.Work.{Marked, Citing, marks_to, with_cited, passed_on};
 
 use crate::read;
 use crate::source::Source;
@@ -46,10 +45,10 @@ fn pass_on(source: &Source, k: usize, marks: &mut [u8])
 }
 
 // A mark for each step: 1 for a kept one, 0 for another. A step cites earlier ones only, so that its own mark is settled when its
-// turn comes.
+// turn comes. What is known then is `Marked`: that the record has passed, and which marks these are.
 pub(crate) fn mark_kept(source: &Source, marks: &mut [u8])
     requires { length marks.old ≡ steps source.now.«record».now }
-    ensures { marks.new ≡ marks_of source.now.sheet.now source.now.«record».now }
+    ensures { Marked source.now.sheet.now source.now.«record».now source.now.table marks.new }
 {
     mark_last(marks);
     for k in (0..marks.len()).rev() {

@@ -25,5 +25,5 @@ returns c =
     let a = c.args in
     let ok = passed_by a.sheet.now a.«record».now _ c.judge-answer.ensures.answer (omega arith) in
     let n = step_count_is a.sheet.now a.«record».now _ c.judge-answer.ensures.answer (eq-eqb c.judge-answer.result.number 0 (omega arith)) in
-    let t = marks_written a.sheet.now a.«record».now a.marks.now a.out.now ok _ _ _ (omega (arith, n)) (marks_put a.sheet.now a.«record».now a.marks.now _ _ n c.mark_kept.ensures) (c.write_if_room.ensures.answer, c.write_if_room.ensures.buffer) in
+    let t = marks_written a.sheet.now a.«record».now a.marks.now a.out.now ok _ _ _ (omega (arith, n)) (marks_put a.sheet.now a.«record».now a.marks.now _ _ n c.mark_kept.ensures.marks_are) (c.write_if_room.ensures.answer, c.write_if_room.ensures.buffer) in
     record { answer = t.0; marked = t.1; buffer = t.2 }

@@ -32,4 +32,7 @@ returns c =
     let x = c.args.source.now in
     let l = c.loop-k in
     let z : l.k ≡ 0 = omega arith in
-    marks_end x.sheet.now x.«record».now (length c.mark_last.new.marks) (omega arith) l.marks (rw z at l.invariant)
+    record {
+      passed = passed x;
+      marks_are = marks_end x.sheet.now x.«record».now (length c.mark_last.new.marks) (omega arith) l.marks (rw z at l.invariant);
+    }
