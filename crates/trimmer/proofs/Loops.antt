@@ -12,7 +12,7 @@ use Rattle.judgement.proofs.Laws.Buffer.{length_over, part_from, part_put, put_n
 use Rattle.judgement.proofs.Complete.Tables.{length_pairs}
 use Rattle.trimmer.specs.Trim.{kept, chosen, new_body}
 use Rattle.trimmer.specs.Work.{Marked, kept_body, bodies_to, pair_if, pairs_to}
-use Rattle.trimmer.proofs.Chosen.{length_chosen}
+use Rattle.trimmer.proofs.Chosen.{length_chosen, count_at_most}
 use Rattle.trimmer.proofs.Steps.{bodies_none, bodies_next, next_pair, pairs_none, pairs_next, grows_by, grows, grows_room}
 use Rattle.trimmer.proofs.Parts.{pair_length}
 
@@ -92,6 +92,13 @@ module _ (s r : List ℕ) (table : ℕ) (marks : List ℕ) (m : Marked s r table
   pairs_fit k next at out size so h e =
       let z = grows_room (pairs_to s r start) (next_pair s r marks start) n (pairs_next s r table marks m start) k h in
       rw (so.next_is, e) (omega (arith, z, so.at_is, so.size))
+
+  -- it takes 8 bytes, if there is one
+  pub pairs_small : (k next at : ℕ) (out : List ℕ) → PairsSo s r start k next at out₀ out → at ≤ 8 * k
+  pairs_small k next at out so =
+      let a = length_pairs_to s r start k in
+      let b = count_at_most (kept s r) k in
+      omega (arith, a, b, so.at_is)
 
   pub pairs_turn : (k next at : ℕ) (out p : List ℕ) (size x : ℕ) → PairsSo s r start k next at out₀ out → k < length marks
       → size ≡ length (kept_body s r (k + 1)) → x ≡ one (eqb (get_or marks k 0) 1)

@@ -7,7 +7,7 @@ use mathlib.Core.List.{List, [], ◌∷◌, ◌++◌}
 use mathlib.Core.Logic.{◌⊎◌, inl, inr}
 use native.Mathlib.Omega.{arith}
 use native.Mathlib.Numerals.{add-one}
-use lib.ListN.{length, get_or, set, replicate, replicate-append-replicate}
+use lib.ListN.{length, get_or, set, replicate, length-set, replicate-append-replicate}
 use lib.Seq.{set_at, set-append_left}
 use lib.Dec.{eqb}
 use borrow.Author.Tests.{eq-eqb, ne_eqb, eqb-true}
@@ -87,6 +87,10 @@ last_set l z h n e = rw (n, e) (last_marked (length l) h)
 pub mark_bit : (b : Bool) → eqb (one b) 1 ≡ b
 mark_bit true = refl
 mark_bit false = refl
+
+length_marks : (f : ℕ → Bool) (t : ℕ) → length (marks_to f t) ≡ t
+unfolding marks_to
+length_marks f t = length_list (λ k. one (f k)) t
 
 marks_same : (f g : ℕ → Bool) (t : ℕ) → ((k : ℕ) → f k ≡ g k) → marks_to f t ≡ marks_to g t
 unfolding marks_to
@@ -187,6 +191,24 @@ pub pass_marked : (b c : List ℕ) (k : ℕ) (marks m : List ℕ) → get_or mar
     → m ≡ passed_on b k marks
 unfolding passed_on marked
 pass_marked b c k marks m h e q = rw (eq-eqb (get_or marks (k - 1) 0) 1 h, ← e) q
+
+-- no mark is added behind the last, and none is lost
+length_cited : (K : Kind) (b marks : List ℕ) → length (with_cited K b marks) ≡ length marks
+unfolding with_cited
+length_cited Copy b marks = refl
+length_cited Cost b marks = refl
+length_cited IndependentSet b marks = refl
+length_cited Resolvent b marks = simp length-set
+length_cited WeightedSet b marks = refl
+length_cited Unknown b marks = refl
+
+pub length_passed : (b : List ℕ) (k : ℕ) (marks : List ℕ) → length (passed_on b k marks) ≡ length marks
+unfolding passed_on
+length_passed b k marks = go (marked marks k)
+  where
+    go : (c : Bool) → length (cond c (with_cited (kind_of b) b marks) marks) ≡ length marks
+    go true = length_cited (kind_of b) b marks
+    go false = refl
 
 -- ---- the loop: t is the number of steps
 

@@ -46,6 +46,10 @@ literal_same α β v c t e = rw (e, t.here) (go (is_positive c) (α v))
     go true a = refl
     go false a = refl
 
+tally_not : (b : Bool) → one b + one (not b) ≡ 1
+tally_not true = refl
+tally_not false = refl
+
 once : (n : ℕ) (part : List ℕ) → LiteralList n part → (i : ℕ) → Among (count part) i → (j : ℕ) → Among (count part) j → j ≢ i
     → variable part j ≡ variable part i → ⊥
 once n part list i w j x d q = go (dec_lt j i)

@@ -22,6 +22,9 @@ use Rattle.turns.proofs.Lists.{either}
 abbrev digit : ℕ → ℕ → ℕ
 digit x i = x / 2 ^ i % 2
 
+digit_zero : (x : ℕ) → digit x 0 ≡ x % 2
+digit_zero x = omega arith
+
 digit_suc : (x i : ℕ) → digit x (suc i) ≡ digit (x / 2) i
 digit_suc x i = rw (pow-succ' 2 i, div-div-eq-div-mul x 2 (2 ^ i))
 
@@ -128,7 +131,19 @@ flipped_swap x (suc i) (suc j) =
     let f : (x % 2 + 2 * flipped (x / 2) j) / 2 ≡ flipped (x / 2) j = omega arith in
     rw (e, f, flipped_swap (x / 2) i j) (omega arith)
 
+flipped_byte : (k x i : ℕ) → x < 2 ^ k → i < k → flipped x i < 2 ^ k
+unfolding flipped
+flipped_byte zero x i h l = absurd (omega arith)
+flipped_byte (suc k) x zero h l = let e = pow-succ' 2 k in omega arith
+flipped_byte (suc k) x (suc i) h l =
+    let e = pow-succ' 2 k in
+    let a = flipped_byte k (x / 2) i (omega arith) (omega arith) in
+    omega arith
+
 -- ---- the same of bits
+
+pub switched_byte : (x i : ℕ) → x < 256 → i < 8 → switched x i < 256
+switched_byte x i h l = rw (switched_flipped x i) (flipped_byte 8 x i h l)
 
 switched_other : (x i j : ℕ) → j ≢ i → bit (switched x i) j ≡ bit x j
 switched_other x i j d = rw (switched_flipped x i, digit_other x i j d)
