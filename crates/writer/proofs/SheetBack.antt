@@ -51,6 +51,13 @@ loss_length lost = elim (loss_or lost) [
   | inr o ↦ rw (ne_eqb lost 0 o.is) (length_bytes 4 lost)
 ]
 
+-- and the mark where these are
+pub mark_tells : (lost : ℕ) → eqb (mark_of lost) 0 ≡ eqb lost 0
+mark_tells lost = elim (loss_or lost) [
+  | inl o ↦ rw (o.mark_is, o.is)
+  | inr o ↦ rw (o.mark_is, ne_eqb lost 0 o.is)
+]
+
 -- ---- the head
 
 -- what stands before the pairs

@@ -24,11 +24,11 @@ fn due_field(s: &[u8]) -> u16
     (mark_of(sheet::loss(s)) + sheet::variable_count(s)) as u16
 }
 
-// Where the pairs of the written sheet begin: behind the costs, and the four bytes of its loss where there is one.
+// Where the pairs of the written sheet begin: behind the costs, and the four bytes of its loss where the mark is due.
 fn head_end(s: &[u8]) -> usize
     ensures { (result ≡ head_end s.now) × (result < 2 ^ 19) }
 {
-    let lost = u32::from(sheet::loss(s) != 0);
+    let lost = u32::from(mark_of(sheet::loss(s)) != 0);
     (sheet::loss_at(s) + 4 * lost) as usize
 }
 
