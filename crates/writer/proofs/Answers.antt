@@ -16,7 +16,7 @@ use Rattle.judgement.specs.declared.Refusal.{Refusal}
 use Rattle.judgement.specs.declared.Written.{Written}
 use Rattle.judgement.specs.Finding.{Finding, fault, is_fine, need, ◌then◌}
 use Rattle.judgement.specs.Sheet.{alone_finding}
-use Rattle.judgement.specs.Buffer.{over, told_by, written_by}
+use Rattle.judgement.specs.Buffer.{over, told_by, written_by, left_by}
 use Rattle.judgement.specs.Facts.{ValidSheet}
 use Rattle.judgement.proofs.Laws.Buffer.{length_over}
 use Rattle.judgement.proofs.Facts.Layouts.{alone_valid, valid_alone, alone_number}
@@ -33,6 +33,14 @@ short_room s room h = rw (lt-leb (length (canonical s)) room h)
 pub room_enough : (s : List ℕ) (room : ℕ) → length (canonical s) ≤ room → shortage s room ≡ Ok tt
 unfolding shortage
 room_enough s room h = rw (le-leb (length (canonical s)) room h)
+
+-- the answer and the buffer are those after this finding
+abbrev pub Told : Finding → List ℕ → List ℕ → Written → List ℕ → Type 0
+Told f w out r left = (r ≡ written_by f w) × (left ≡ left_by f w out)
+
+pub too_short : (s out : List ℕ) → length out < length (canonical s)
+    → Told (shortage s (length out)) (canonical s) out (record { number = 25; place = 0; length = 0 }) out
+too_short s out h = let e = short_room s (length out) h in (rw e, rw e)
 
 -- ---- what the answer says
 
