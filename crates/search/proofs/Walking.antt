@@ -1,4 +1,5 @@
--- The loops that look at clauses: those of one word, all, those of the last plane.
+-- The loops that look at clauses: those of one word, all, those of the last plane. Forcing asks for no costs, so that what a
+-- loop keeps is said of any.
 -- Assumes nothing.
 use Prim.Native.Nat.{ℕ, ◌+◌, ◌-◌, ◌*◌, ◌/◌, ◌%◌, ◌^◌, ◌≤◌, ◌<◌}
 use mathlib.Core.Path.{◌≡◌, sym, ap, ap₂, ◌∙◌}
@@ -59,27 +60,30 @@ module _ (t : Tables) (j : ℕ) (among : j < t.size.clauses) (w : Work) (r : Opt
   pub told_leads : Leads w r
   told_leads = leads_look t.size.variables _ w r (λ c i. stated_bounded t (j + 1) here c i) looked
 
-  pub told_keeps : (R R' : ℕ → Bool) → ((k : ℕ) → Among t.size.clauses k → R k ≡ true → (k ≡ j + 1) ⊎ (R' k ≡ true))
-      → Keeps (stated t) w R r R'
-  told_keeps R R' less = keeps_look (stated t) (stated_bounded t) w r R R' (j + 1) here looked less
+  pub told_keeps : (costs : List ℕ) (R R' : ℕ → Bool) → ((k : ℕ) → Among t.size.clauses k → R k ≡ true → (k ≡ j + 1) ⊎ (R' k ≡ true))
+      → Keeps (table_problem t.size costs t.masks) w R r R'
+  told_keeps costs R R' less =
+      keeps_look (table_problem t.size costs t.masks) (tables_bounded t.size costs t.masks t.fine.clauses) w r R R' (j + 1) here looked less
 
 -- ---- all clauses, of which those up to k have been looked at
 
 abbrev pub AllUpTo : Tables → Work → ℕ → Option Work → Type 0
-AllUpTo t w k r = Leads w r × Keeps (stated t) w (λ j. true) r (ltb k)
+AllUpTo t w k r = Leads w r × ((costs : List ℕ) → Keeps (table_problem t.size costs t.masks) w (λ j. true) r (ltb k))
 
 module _ (t : Tables) where
   pub all_first : (w : Work) → AllUpTo t w 0 (Some w)
   all_first w = (
     leads_self w,
-    keeps_less (stated t) w (Some w) (λ j. true) (λ j. true) (ltb 0) (keeps_self (stated t) w (λ j. true)) (λ j a t. lt-ltb 0 j a.0),
+    λ costs. keeps_less (table_problem t.size costs t.masks) w (Some w) (λ j. true) (λ j. true) (ltb 0)
+        (keeps_self (table_problem t.size costs t.masks) w (λ j. true)) (λ j a t. lt-ltb 0 j a.0),
   )
 
   pub all_next : (w u : Work) (r : Option Work) (k : ℕ) → k < t.size.clauses
       → Told (get_or t.masks (2 * k) 0) (get_or t.masks (2 * k + 1) 0) u r → AllUpTo t w k (Some u) → AllUpTo t w (k + 1) r
   all_next w u r k l told (leads, keeps) = (
     leads_then w u r leads (told_leads t k l u r told),
-    keeps_then (stated t) w u r (λ j. true) (ltb k) (ltb (k + 1)) keeps (told_keeps t k l u r told (ltb k) (ltb (k + 1)) less),
+    λ costs. keeps_then (table_problem t.size costs t.masks) w u r (λ j. true) (ltb k) (ltb (k + 1)) (keeps costs)
+        (told_keeps t k l u r told costs (ltb k) (ltb (k + 1)) less),
   )
     where
       less : (j : ℕ) → Among t.size.clauses j → ltb k j ≡ true → (j ≡ k + 1) ⊎ (ltb (k + 1) j ≡ true)
@@ -90,12 +94,13 @@ module _ (t : Tables) where
 
   -- a clause is false, or all have been looked at
   pub all_last : (w : Work) (r : Option Work) (k : ℕ) → (r ≡ None) ⊎ (t.size.clauses ≤ k) → AllUpTo t w k r
-      → Leads w r × Keeps (stated t) w (λ j. true) r nothing
+      → Leads w r × ((costs : List ℕ) → Keeps (table_problem t.size costs t.masks) w (λ j. true) r nothing)
   all_last w r k end (leads, keeps) = (
     leads,
-    elim end [
-      | inl d ↦ keeps_dead (stated t) w r (λ j. true) (ltb k) nothing d keeps
-      | inr l ↦ keeps_less (stated t) w r (λ j. true) (ltb k) nothing keeps (λ j a b. absurd (omega (arith, a.1, l, ltb-true k j b)))
+    λ costs. elim end [
+      | inl d ↦ keeps_dead (table_problem t.size costs t.masks) w r (λ j. true) (ltb k) nothing d (keeps costs)
+      | inr l ↦ keeps_less (table_problem t.size costs t.masks) w r (λ j. true) (ltb k) nothing (keeps costs)
+          (λ j a b. absurd (omega (arith, a.1, l, ltb-true k j b)))
     ],
   )
 
@@ -130,29 +135,31 @@ rest_part x j t = and_l (has x j) (has (x - 1) j) (sym (has_and x (x - 1) j) ∙
 
 -- from w, where the clauses of `bits` were to be looked at, to r, where those of x are
 abbrev pub WordDownTo : Tables → ℕ → ℕ → Work → ℕ → Option Work → Type 0
-WordDownTo t i bits w x r = Leads w r × ((R : ℕ → Bool) → Keeps (stated t) w (λ k. in_word i bits k || R k) r (λ k. in_word i x k || R k))
+WordDownTo t i bits w x r = Leads w r × ((costs : List ℕ) (R : ℕ → Bool)
+    → Keeps (table_problem t.size costs t.masks) w (λ k. in_word i bits k || R k) r (λ k. in_word i x k || R k))
 
 module _ (t : Tables) (i bits : ℕ) where
   pub word_first : (w : Work) → WordDownTo t i bits w bits (Some w)
-  word_first w = (leads_self w, λ R. keeps_self (stated t) w (λ k. in_word i bits k || R k))
+  word_first w = (leads_self w, λ costs R. keeps_self (table_problem t.size costs t.masks) w (λ k. in_word i bits k || R k))
 
   pub word_next : (w u : Work) (r : Option Work) (x : ℕ) → 1 ≤ x → x < 2 ^ 64 → 64 * i + count_trailing_zeros 64 x < t.size.clauses
       → Told (get_or t.masks (2 * (64 * i + count_trailing_zeros 64 x)) 0) (get_or t.masks (2 * (64 * i + count_trailing_zeros 64 x) + 1) 0) u r
       → WordDownTo t i bits w x (Some u) → WordDownTo t i bits w (bit_and x (x - 1)) r
   word_next w u r x some word l told (leads, keeps) = (
     leads_then w u r leads (told_leads t (64 * i + count_trailing_zeros 64 x) l u r told),
-    λ R. keeps_then (stated t) w u r (λ k. in_word i bits k || R k) (λ k. in_word i x k || R k) (λ k. in_word i (bit_and x (x - 1)) k || R k)
-        (keeps R) (told_keeps t (64 * i + count_trailing_zeros 64 x) l u r told (λ k. in_word i x k || R k)
+    λ costs R. keeps_then (table_problem t.size costs t.masks) w u r (λ k. in_word i bits k || R k) (λ k. in_word i x k || R k)
+        (λ k. in_word i (bit_and x (x - 1)) k || R k) (keeps costs R)
+        (told_keeps t (64 * i + count_trailing_zeros 64 x) l u r told costs (λ k. in_word i x k || R k)
         (λ k. in_word i (bit_and x (x - 1)) k || R k) (word_less i x some word R t.size.clauses)),
   )
 
   pub word_last : (w : Work) (r : Option Work) (x : ℕ) → (r ≡ None) ⊎ (x ≡ 0) → WordDownTo t i bits w x r
-      → Leads w r × ((R : ℕ → Bool) → Keeps (stated t) w (λ k. in_word i bits k || R k) r R)
+      → Leads w r × ((costs : List ℕ) (R : ℕ → Bool) → Keeps (table_problem t.size costs t.masks) w (λ k. in_word i bits k || R k) r R)
   word_last w r x end (leads, keeps) = (
     leads,
-    λ R. elim end [
-      | inl d ↦ keeps_dead (stated t) w r (λ k. in_word i bits k || R k) (λ k. in_word i x k || R k) R d (keeps R)
-      | inr z ↦ keeps_less (stated t) w r (λ k. in_word i bits k || R k) (λ k. in_word i x k || R k) R (keeps R)
+    λ costs R. elim end [
+      | inl d ↦ keeps_dead (table_problem t.size costs t.masks) w r (λ k. in_word i bits k || R k) (λ k. in_word i x k || R k) R d (keeps costs R)
+      | inr z ↦ keeps_less (table_problem t.size costs t.masks) w r (λ k. in_word i bits k || R k) (λ k. in_word i x k || R k) R (keeps costs R)
           (λ k a b. elim (or_e (in_word i x k) (R k) b) [
             | inl q ↦ absurd (clash (rw z at (and_r (eqb ((k - 1) / 64) i) (has x ((k - 1) % 64 + 1)) q)) (has_empty ((k - 1) % 64 + 1)))
             | inr q ↦ q
@@ -197,25 +204,27 @@ module _ (table : List ℕ) (at i : ℕ) where
 
 -- from w, where the clauses of the last plane were to be looked at, to r, where those from word i on are
 abbrev pub LowUpTo : Tables → List ℕ → ℕ → Work → ℕ → Option Work → Type 0
-LowUpTo t table at w i r = Leads w r × Keeps (stated t) w (plane table at 4) r (from_word table at i)
+LowUpTo t table at w i r =
+    Leads w r × ((costs : List ℕ) → Keeps (table_problem t.size costs t.masks) w (plane table at 4) r (from_word table at i))
 
 module _ (t : Tables) (table : List ℕ) (at : ℕ) where
   pub low_begins : (w : Work) → LowUpTo t table at w 0 (Some w)
   low_begins w = (
     leads_self w,
-    keeps_less (stated t) w (Some w) (plane table at 4) (plane table at 4) (from_word table at 0)
-        (keeps_self (stated t) w (plane table at 4)) (low_first table at 0 t.size.clauses),
+    λ costs. keeps_less (table_problem t.size costs t.masks) w (Some w) (plane table at 4) (plane table at 4) (from_word table at 0)
+        (keeps_self (table_problem t.size costs t.masks) w (plane table at 4)) (low_first table at 0 t.size.clauses),
   )
 
   pub low_goes_on : (w u : Work) (r : Option Work) (i : ℕ) → Leads u r
-      → ((R : ℕ → Bool) → Keeps (stated t) u (λ k. in_word i (get_or table (at + 256 + i) 0) k || R k) r R)
+      → ((costs : List ℕ) (R : ℕ → Bool)
+      → Keeps (table_problem t.size costs t.masks) u (λ k. in_word i (get_or table (at + 256 + i) 0) k || R k) r R)
       → LowUpTo t table at w i (Some u) → LowUpTo t table at w (i + 1) r
   low_goes_on w u r i leads' keeps' (leads, keeps) = (
     leads_then w u r leads leads',
-    keeps_then (stated t) w u r (plane table at 4) (from_word table at i) (from_word table at (i + 1)) keeps
-        (keeps_more (stated t) u r (from_word table at i)
+    λ costs. keeps_then (table_problem t.size costs t.masks) w u r (plane table at 4) (from_word table at i) (from_word table at (i + 1))
+        (keeps costs) (keeps_more (table_problem t.size costs t.masks) u r (from_word table at i)
         (λ k. in_word i (get_or table (at + 256 + i) 0) k || from_word table at (i + 1) k) (from_word table at (i + 1))
-        (low_next table at i t.size.clauses) (keeps' (from_word table at (i + 1)))),
+        (low_next table at i t.size.clauses) (keeps' costs (from_word table at (i + 1)))),
   )
 
   -- words that are 0 have no clause
@@ -223,7 +232,7 @@ module _ (t : Tables) (table : List ℕ) (at : ℕ) where
       → LowUpTo t table at w r (Some u)
   low_skips w u i r none (leads, keeps) = (
     leads,
-    keeps_less (stated t) w (Some u) (plane table at 4) (from_word table at i) (from_word table at r) keeps (λ k a b.
+    λ costs. keeps_less (table_problem t.size costs t.masks) w (Some u) (plane table at 4) (from_word table at i) (from_word table at r) (keeps costs) (λ k a b.
         let l = leb-true i ((k - 1) / 64) (and_l (leb i ((k - 1) / 64)) (plane table at 4 k) b) in
         let h = and_r (leb i ((k - 1) / 64)) (plane table at 4 k) b in
         elim (dec_lt ((k - 1) / 64) r) [
@@ -233,12 +242,12 @@ module _ (t : Tables) (table : List ℕ) (at : ℕ) where
   )
 
   pub low_ends : (w : Work) (r : Option Work) (i : ℕ) → (r ≡ None) ⊎ (t.size.clauses ≤ 64 * i) → LowUpTo t table at w i r
-      → Leads w r × Keeps (stated t) w (plane table at 4) r nothing
+      → Leads w r × ((costs : List ℕ) → Keeps (table_problem t.size costs t.masks) w (plane table at 4) r nothing)
   low_ends w r i end (leads, keeps) = (
     leads,
-    elim end [
-      | inl d ↦ keeps_dead (stated t) w r (plane table at 4) (from_word table at i) nothing d keeps
-      | inr l ↦ keeps_less (stated t) w r (plane table at 4) (from_word table at i) nothing keeps
+    λ costs. elim end [
+      | inl d ↦ keeps_dead (table_problem t.size costs t.masks) w r (plane table at 4) (from_word table at i) nothing d (keeps costs)
+      | inr l ↦ keeps_less (table_problem t.size costs t.masks) w r (plane table at 4) (from_word table at i) nothing (keeps costs)
           (λ k a b. low_last table at i t.size.clauses k a l b)
     ],
   )

@@ -1,11 +1,12 @@
 // Forcing at a node. A literal that becomes false can make only its own clauses false or forcing, so that after the first look at
 // all clauses only those of such a literal are looked at.
-ghost use Rattle.std.specs.Prelude.{◌≡◌, Bool, true, cond, ◌||◌, ℕ, ◌+◌, ◌-◌, ◌*◌, ◌^◌, ◌≤◌, ◌<◌, get_or};
+ghost use Rattle.std.specs.Prelude.{◌≡◌, Bool, true, cond, ◌||◌, List, ℕ, ◌+◌, ◌-◌, ◌*◌, ◌^◌, ◌≤◌, ◌<◌, get_or};
 ghost use Rattle.judgement.specs.Facts.{Among};
 ghost use Rattle.search.specs.declared.Node.{Node};
 ghost use Rattle.search.specs.declared.Settled.{Settled};
 ghost use Rattle.search.specs.Node.{has, node_cost};
 ghost use Rattle.search.specs.Stated.{stated};
+ghost use Rattle.search.specs.Tables.{table_problem};
 ghost use Rattle.search.specs.Work.{node_of, at_node, Under, Ready, Reached, Keeps, Leads, nothing, in_word, counted_cost, false_literal, looked_at, AllQuiet, Outcome};
 ghost use Rattle.search.specs.Counts.{plane, Counts, Outside, LowInside};
 
@@ -17,7 +18,8 @@ use crate::{Node, Settled, Work, clause, count};
 fn look_word(tables: &Tables, bits: u64, i: usize, w: Work) -> Option<Work>
     requires { (i < 64) × ((j : ℕ) → Among 64 j → has bits j ≡ true → 64 * i + j ≤ tables.now.size.clauses) }
     ensures onto { Leads w result }
-    ensures keeps { (R : ℕ → Bool) → Keeps (stated tables.now) w (λ k. in_word i bits k || R k) result R }
+    ensures keeps { (costs : List ℕ) (R : ℕ → Bool)
+        → Keeps (table_problem tables.now.size costs tables.now.masks) w (λ k. in_word i bits k || R k) result R }
 {
     let mut out = w;
     let mut x = bits;
@@ -47,7 +49,8 @@ fn next_word(table: &[u64; 20800], start: usize, i: usize, words: usize) -> usiz
 fn look_low(tables: &Tables, table: &[u64; 20800], level: Level, w: Work) -> Option<Work>
     requires { LowInside tables.now.size.clauses table.now level.at }
     ensures onto { Leads w result }
-    ensures keeps { Keeps (stated tables.now) w (plane table.now level.at 4) result nothing }
+    ensures keeps { (costs : List ℕ)
+        → Keeps (table_problem tables.now.size costs tables.now.masks) w (plane table.now level.at 4) result nothing }
 {
     let words = tables.size.words();
     let start = level.at + 256;
@@ -63,7 +66,8 @@ fn look_low(tables: &Tables, table: &[u64; 20800], level: Level, w: Work) -> Opt
 // Looks at every clause, up to one that is false.
 pub(crate) fn look_all(tables: &Tables, w: Work) -> Option<Work>
     ensures onto { Leads w result }
-    ensures keeps { Keeps (stated tables.now) w (λ k. true) result nothing }
+    ensures keeps { (costs : List ℕ)
+        → Keeps (table_problem tables.now.size costs tables.now.masks) w (λ k. true) result nothing }
 {
     let m = tables.size.clauses as usize;
     let mut out = w;

@@ -21,7 +21,7 @@ returns-in_default c =
     let a = c.args in
     let t = a.tables.now in
     let l = c.look_all in
-    root_dead (stated t) (stated_bounded t) l.result l.ensures.onto l.ensures.keeps a.budget _ refl c.in_default.is
+    root_dead (stated t) (stated_bounded t) l.result l.ensures.onto (l.ensures.keeps t.costs) a.budget _ refl c.in_default.is
 
 pub count_all-requires : goal.count_all-requires
 count_all-requires c = zeros 20800
@@ -39,8 +39,8 @@ force-requires c =
     let counts = counts_root t.size t.costs t.masks t.rows table (64 * words_for t.size.clauses) fine.clauses fine.literals c.count_all.ensures (omega arith) in (
       omega (arith, most, fine.clauses.variables),
       counts_onto (stated t) table 0 (at_node root) w (l.ensures.onto w c.in-Some.is).standing counts,
-      root_ready (stated t) (stated_bounded t) l.result l.ensures.onto l.ensures.keeps a.budget _ refl w c.in-Some.is,
-      c.from.ensures ∙ root_price (stated t) (stated_bounded t) l.result l.ensures.onto l.ensures.keeps a.budget _ refl w c.in-Some.is,
+      root_ready (stated t) (stated_bounded t) l.result l.ensures.onto (l.ensures.keeps t.costs) a.budget _ refl w c.in-Some.is,
+      c.from.ensures ∙ root_price (stated t) (stated_bounded t) l.result l.ensures.onto (l.ensures.keeps t.costs) a.budget _ refl w c.in-Some.is,
     )
 
 pub returns : goal.returns
@@ -49,5 +49,5 @@ returns c =
     let a = c.args in
     let t = a.tables.now in
     let l = c.look_all in
-    root_explored (stated t) (stated_bounded t) l.result l.ensures.onto l.ensures.keeps a.budget _ refl c.in-Some.w c.in-Some.is
+    root_explored (stated t) (stated_bounded t) l.result l.ensures.onto (l.ensures.keeps t.costs) a.budget _ refl c.in-Some.w c.in-Some.is
     c.force.result c.force.ensures.explores

@@ -66,7 +66,7 @@ returns-in_err-out-clause-same c =
     let l = c.loop-out in
     let f = c.look_low in
     let round = round_done t l.out c.looked_at.result f.result (omega (arith, c.loop-out-test.true)) (omega arith) l.invariant.ready a.level.at l.table c.count_down.new.table
-    l.invariant.counts (rw c.false_literal.ensures at c.count_down.ensures) c.looked_at.ensures f.ensures.onto f.ensures.keeps in
+    l.invariant.counts (rw c.false_literal.ensures at c.count_down.ensures) c.looked_at.ensures f.ensures.onto (f.ensures.keeps t.costs) in
     rw c.from_residual.ensures (left_outcome (stated t) a.best p (inl (round.stops c.in_err-out.was p (l.invariant.reached p x))))
 
 pub loop-out-smaller : goal.loop-out-smaller
@@ -78,7 +78,7 @@ loop-out-smaller c =
     let some : 1 ≤ l.out.todo = omega (arith, c.loop-out-test.true) in
     let word : l.out.todo < 2 ^ 64 = omega arith in
     let round = round_done t l.out c.looked_at.result f.result some word l.invariant.ready a.level.at l.table c.count_down.new.table
-    l.invariant.counts (rw c.false_literal.ensures at c.count_down.ensures) c.looked_at.ensures f.ensures.onto f.ensures.keeps in
+    l.invariant.counts (rw c.false_literal.ensures at c.count_down.ensures) c.looked_at.ensures f.ensures.onto (f.ensures.keeps t.costs) in
     load_falls l.out some word c.in_ok-out.out (round.onto c.in_ok-out.out c.in_ok-out.was)
 
 pub loop-out-preserved : goal.loop-out-preserved
@@ -94,7 +94,7 @@ loop-out-preserved c =
     let next = c.in_ok-out.out in
     let is = c.in_ok-out.was in
     let down = rw c.false_literal.ensures at c.count_down.ensures in
-    let round = round_done t l.out c.looked_at.result f.result some word l.invariant.ready a.level.at l.table table l.invariant.counts down c.looked_at.ensures f.ensures.onto f.ensures.keeps in
+    let round = round_done t l.out c.looked_at.result f.result some word l.invariant.ready a.level.at l.table table l.invariant.counts down c.looked_at.ensures f.ensures.onto (f.ensures.keeps t.costs) in
     let paid = round_paid (stated t) l.out some word l.invariant.ready l.paid s.result l.invariant.paid s.ensures.0 in
     record {
       outside = outside_trans a.level.at a.table.now l.table table l.invariant.outside down.outside;
