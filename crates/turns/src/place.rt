@@ -21,16 +21,23 @@ pub(crate) fn u32_at(s: &[u8], at: usize) -> usize
     u32::from_le_bytes([s[at], s[at + 1], s[at + 2], s[at + 3]]) as usize
 }
 
+// The bytes go one by one: each is a store within the buffer, and the compiler makes one of them.
 pub(crate) fn put_u16(out: &mut [u8], at: usize, x: u16)
     requires { at + 2 ≤ length out.old }
     ensures { out.new ≡ patch at (bytes_of 2 x) out.old }
 {
-    out[at..at + 2].copy_from_slice(&x.to_le_bytes());
+    let [low, high] = x.to_le_bytes();
+    out[at] = low;
+    out[at + 1] = high;
 }
 
 pub(crate) fn put_u32(out: &mut [u8], at: usize, x: u32)
     requires { at + 4 ≤ length out.old }
     ensures { out.new ≡ patch at (bytes_of 4 x) out.old }
 {
-    out[at..at + 4].copy_from_slice(&x.to_le_bytes());
+    let [a, b, c, d] = x.to_le_bytes();
+    out[at] = a;
+    out[at + 1] = b;
+    out[at + 2] = c;
+    out[at + 3] = d;
 }
