@@ -47,7 +47,7 @@ module _ (at : ℕ) (l pairs head : List ℕ) (low : at ≤ length l) (head_size
       em ∙ rw (w, head_size, drop_at (take at l) pairs at n)
 
 -- a front part written whole, and the part behind it
-both_written : (front₀ back₀ front back w v : List ℕ) → length w ≡ length front₀ → front ≡ w → back ≡ over v back₀
+pub both_written : (front₀ back₀ front back w v : List ℕ) → length w ≡ length front₀ → front ≡ w → back ≡ over v back₀
     → front ++ back ≡ over (w ++ v) (front₀ ++ back₀)
 both_written front₀ back₀ front back w v n ef eb =
     rw (
@@ -169,7 +169,7 @@ sizes x =
       marked = (omega arith, omega arith);
     }
 
--- so the count, and the number of marks, are written as they are
+-- so either cast fits: what refuses the other count is the record that it writes
 pub count_fits : (x : Selection) {n : ℕ} → n ≡ count_of (kept x.source.sheet.now x.source.«record».now) (steps x.source.«record».now) → n < 2 ^ 32
 count_fits x e = let z = sizes x in omega (arith, e)
 
