@@ -48,10 +48,10 @@ less_size (negsuc n) = omega arith
 abbrev pub above_zero : ℤ → ℕ
 above_zero z = nat_abs (int_max z (pos 0))
 
-pub positive_total : (z : ℤ) → int_max z (pos 0) ≡ pos (above_zero z)
-positive_total (pos zero) = refl
-positive_total (pos (suc n)) = rw (lt-ltb 0 (suc n) (omega arith))
-positive_total (negsuc n) = refl
+pub above_is : (z : ℤ) → int_max z (pos 0) ≡ pos (above_zero z)
+above_is (pos zero) = refl
+above_is (pos (suc n)) = rw (lt-ltb 0 (suc n) (omega arith))
+above_is (negsuc n) = refl
 
 pub above_size : (z : ℤ) → above_zero z ≤ nat_abs z
 above_size (pos zero) = omega arith
@@ -66,16 +66,16 @@ rounded_small (negsuc n) d b h = omega arith
 abbrev pub quotient_bits : ℤ → ℕ → ℕ
 quotient_bits x d = of_z w64 (quot_z (to_z w64 (of_z w64 x)) (to_z w64 d))
 
-quotient_small : (n d : ℕ) → n < 2 ^ 62 → d < 2 ^ 16 → (n + (d - 1)) / d < 2 ^ 63
+pub quotient_small : (n d : ℕ) → n < 2 ^ 62 → d < 2 ^ 16 → (n + (d - 1)) / d < 2 ^ 63
 quotient_small n d b h =
     let q = div-le_self (n + (d - 1)) d in
     omega arith
 
-quotient_read : (x : ℤ) (n d : ℕ) → x ≡ pos (n + (d - 1)) → n < 2 ^ 62 → d < 2 ^ 16
+pub quotient_read : (x : ℤ) (n d : ℕ) → x ≡ pos (n + (d - 1)) → n < 2 ^ 62 → d < 2 ^ 16
     → quot_z (to_z w64 (of_z w64 x)) (to_z w64 d) ≡ pos ((n + (d - 1)) / d)
 quotient_read x n d e b h = rw (e, back (pos (n + (d - 1))) (omega arith), natural d (omega arith))
 
-quotient_back : (x : ℤ) (n d : ℕ) → x ≡ pos (n + (d - 1)) → n < 2 ^ 62 → d < 2 ^ 16
+pub quotient_back : (x : ℤ) (n d : ℕ) → x ≡ pos (n + (d - 1)) → n < 2 ^ 62 → d < 2 ^ 16
     → to_z w64 (quotient_bits x d) ≡ pos ((n + (d - 1)) / d)
 quotient_back x n d e b h = rw (quotient_read x n d e b h) (back (pos ((n + (d - 1)) / d)) (quotient_small n d b h))
 
